@@ -1,0 +1,1 @@
+// Base64 between a text and a lent buffer.

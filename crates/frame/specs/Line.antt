@@ -1,0 +1,32 @@
+-- A line of the serial port: "marker 06 09 (initial) or 04 14 (partial), text of 0 to 124 characters, then 0A".
+-- Assumes nothing.
+use Prim.Native.Nat.{ℕ, _-_}
+use mathlib.Core.Bool.{Bool}
+use mathlib.Core.List.{List, [], _∷_, _++_}
+use lib.Dec.{eqb}
+use lib.ListN.{length, getD, take, drop}
+use Rattle.laws.specs.Choice.{both}
+use Rattle.base64.specs.Base64.{encode}
+
+-- the two markers
+abbrev pub initial : List ℕ
+initial = 0x06 ∷ 0x09 ∷ []
+
+abbrev pub partial : List ℕ
+partial = 0x04 ∷ 0x14 ∷ []
+
+-- the frame that carries some raw bytes
+unfoldable pub frame : List ℕ → List ℕ → List ℕ
+frame marker raw = marker ++ (encode raw ++ (0x0A ∷ []))
+
+-- a line begins with the bytes a and b
+unfoldable pub marked : ℕ → ℕ → List ℕ → Bool
+marked a b line = both (eqb (getD line 0 0) a) (eqb (getD line 1 0) b)
+
+-- a line ends with 0A
+unfoldable pub ended : List ℕ → Bool
+ended line = eqb (getD line (length line - 1) 0) 0x0A
+
+-- what stands between a line's marker and its 0A
+unfoldable pub textOf : List ℕ → List ℕ
+textOf line = take (length line - 1 - 2) (drop 2 line)

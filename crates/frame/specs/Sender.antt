@@ -1,0 +1,86 @@
+-- The frame sender: which lines a body becomes, what it answers to a body and a frame number, and what becomes of the lent buffer.
+-- Assumes nothing.
+use Prim.Native.Nat.{ℕ, zero, suc, _+_, _*_, _-_, _/_, min}
+use mathlib.Core.Bool.{Bool, not}
+use mathlib.Core.List.{List, [], _∷_, _++_}
+use lib.Dec.{ltb, leb, eqb}
+use lib.ListN.{length, take, drop}
+use Rattle.laws.specs.Choice.{pick, both}
+use Rattle.laws.specs.Bytes.{pasted, be16}
+use Rattle.refusal.specs.Number.{numberOf}
+use Rattle.crc.specs.Crc.{crcOf}
+use Rattle.frame.specs.Line.{initial, partial, frame}
+use Rattle.frame.specs.declared.Sent.{Sent}
+use Rattle.frame.specs.declared.Sent.the-variants.{Frame, Refused}
+
+-- "A body shorter than 89 goes in one frame with total and CRC."
+abbrev pub oneFrame : ℕ → Bool
+oneFrame b = ltb b 89
+
+-- "The frame count for a body of b bytes, b at least 89, is 2 plus (b - 182) / 93 rounded up, or 2 where b is at most 182."
+unfoldable pub frameCount : ℕ → ℕ
+frameCount b = pick (oneFrame b) 1 (pick (leb b 182) 2 (2 + (b - 182 + 92) / 93))
+
+-- the raw bytes of a packet: total, body, CRC
+unfoldable pub rawOf : List ℕ → List ℕ
+rawOf s = be16 (length s + 2) ++ (s ++ be16 (crcOf s))
+
+-- where frame k's raw bytes begin, for a body of b bytes: 93 a frame, and the CRC is left to the last
+unfoldable pub startOf : ℕ → ℕ → ℕ
+startOf b k = min (93 * k) (b + 2)
+
+-- where they end: at the packet's end in the last frame
+unfoldable pub stopOf : ℕ → ℕ → ℕ
+stopOf b k = pick (eqb (k + 1) (frameCount b)) (b + 4) (startOf b (k + 1))
+
+-- frame k's raw bytes
+unfoldable pub pieceOf : List ℕ → ℕ → List ℕ
+pieceOf s k = take (stopOf (length s) k - startOf (length s) k) (drop (startOf (length s) k) (rawOf s))
+
+-- the line of frame k
+unfoldable pub frameOf : List ℕ → ℕ → List ℕ
+frameOf s k = frame (pick (eqb k 0) initial partial) (pieceOf s k)
+
+-- "while more than 91 are left, a partial frame carries 93 of them, or all if fewer; the last frame carries the rest, perhaps none,
+-- and the CRC": the raw bytes of those frames, where the first argument is at least the number of bytes left
+unfoldable pub laterCuts : ℕ → List ℕ → List ℕ → List (List ℕ)
+laterCuts zero left crc = (left ++ crc) ∷ []
+laterCuts (suc n) left crc = pick (ltb 91 (length left)) (take 93 left ∷ laterCuts n (drop 93 left) crc) ((left ++ crc) ∷ [])
+
+-- the raw bytes of each frame, as the paper cuts them: "A body shorter than 89 goes in one frame with total and CRC. Otherwise frame 0
+-- carries total and the first 91 body bytes, or all if fewer; then .."
+unfoldable pub cuts : List ℕ → List (List ℕ)
+cuts s =
+    pick (oneFrame (length s))
+    (rawOf s ∷ [])
+    ((be16 (length s + 2) ++ take 91 s) ∷ laterCuts (length s) (drop 91 s) (be16 (crcOf s)))
+
+-- what the sender says, in the paper's terms: a frame of this length, and the frame count; or the refusal of this number
+pub data Told : Type 0 where
+  frameIs : ℕ → ℕ → Told
+  refused : ℕ → Told
+
+-- each answer's meaning
+abbrev pub told : Sent → Told
+told (Frame length count) = frameIs length count
+told (Refused r) = refused (numberOf r)
+
+-- all that a call leaves: what it said, and the lent buffer
+pub record Outcome : Type 0 where
+  pub says : Told
+  pub buffer : List ℕ
+
+-- the outcome of a call that gave s and left out in its buffer
+abbrev pub outcome : Sent → List ℕ → Outcome
+outcome s out = record { says = told s; buffer = out }
+
+-- "The sender refuses 12 for an output under 127 bytes or a body outside 8 to 65,533."
+unfoldable pub sendable : ℕ → ℕ → Bool
+sendable b room = both (leb 127 room) (both (leb 8 b) (leb b 65533))
+
+-- frame number k of the body s goes to the start of the lent buffer: refusals 12 and 13, then the frame
+unfoldable pub sendFrame : List ℕ → ℕ → List ℕ → Outcome
+sendFrame s k out =
+    pick (not (sendable (length s) (length out))) (record { says = refused 12; buffer = out })
+    (pick (not (ltb k (frameCount (length s)))) (record { says = refused 13; buffer = out })
+    (record { says = frameIs (length (frameOf s k)) (frameCount (length s)); buffer = pasted out 0 (frameOf s k) }))

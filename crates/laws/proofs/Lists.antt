@@ -1,0 +1,128 @@
+-- Laws of lists of bytes: a list written into another at a place, and that the parts of bytes are bytes.
+-- Assumes nothing.
+use mathlib.Core.Path.{_≡_, refl, sym, ap, ap₂, _∙_}
+use Prim.Native.Nat.{ℕ, zero, suc, _+_, _-_, _*_, _/_, _%_, _≤_, _<_}
+use native.Mathlib.Nat.{zero-add, add-zero}
+use native.Mathlib.Omega.{arith}
+use mathlib.Core.List.{List, [], _∷_, _++_, append-assoc, append-nil}
+use lib.ListN.{length, getD, take, drop, length-append, length-take, length-drop, take-append-drop, drop-of-length-le}
+use lib.Seq.{take-length, take-append-add, drop-append-add, drop-drop, take-all, take-at}
+use lib.Dec.{lit<}
+use Rattle.laws.specs.Bytes.{Bytes, pasted, be16, ofBe16}
+
+-- nothing written: nothing moves
+pub pasted-none : (m : List ℕ) (at : ℕ) → pasted m at [] ≡ m
+unfolding pasted
+pasted-none m at = rw add-zero (take-append-drop at m)
+
+-- the definition, for whoever cannot open it
+pub pasted-is : (m : List ℕ) (at : ℕ) (x : List ℕ) → pasted m at x ≡ take at m ++ (x ++ drop (at + length x) m)
+unfolding pasted
+pasted-is m at x = refl
+
+-- what is written at the start
+pub pasted-start : (m x : List ℕ) → pasted m 0 x ≡ x ++ drop (length x) m
+unfolding pasted
+pasted-start m x = rw zero-add
+
+-- a list that is written within another keeps its length
+pub pasted-length : (m : List ℕ) (at : ℕ) (x : List ℕ) → at + length x ≤ length m → length (pasted m at x) ≡ length m
+unfolding pasted
+pasted-length m at x h = simp (length-append, length-take, length-drop) (omega arith)
+
+-- the part of a list from a place to the end, and what stands after it
+pub rest-all : (m : List ℕ) (at : ℕ) → take (length m - at) (drop at m) ≡ drop at m
+rest-all m at = take-all (length m - at) (drop at m) (simp length-drop (omega arith))
+
+pub rest-none : (m : List ℕ) (at : ℕ) → drop (length m - at) (drop at m) ≡ []
+rest-none m at = drop-of-length-le (drop at m) {i = length m - at} (simp length-drop (omega arith))
+
+-- a copy to the start of the part from `at` on, seen in the whole
+pub copied-part : (m : List ℕ) (at : ℕ) (x ys : List ℕ) → ys ≡ take (length x) x ++ drop (length x) (take (length m - at) (drop at m)) → take at m ++ (ys ++ drop (length m - at) (drop at m)) ≡ pasted m at x
+unfolding pasted
+copied-part m at x ys e = rw (e, rest-none m at, rest-all m at, append-nil, take-length x, drop-drop (length x) at m)
+
+-- a list in front of another, cut where it ends or later
+pub take-past : (p q : List ℕ) (n : ℕ) → length p ≤ n → take n (p ++ q) ≡ p ++ take (n - length p) q
+take-past p q n h =
+    let e : length p + (n - length p) ≡ n = omega arith in
+    rw e at (take-append-add p q (n - length p))
+
+pub drop-past : (p q : List ℕ) (n : ℕ) → length p ≤ n → drop n (p ++ q) ≡ drop (n - length p) q
+drop-past p q n h =
+    let e : length p + (n - length p) ≡ n = omega arith in
+    rw e at (drop-append-add p q (n - length p))
+
+-- the three parts of a list that another was written into
+pub pasted-take : (m : List ℕ) (at : ℕ) (x : List ℕ) → at + length x ≤ length m → take (at + length x) (pasted m at x) ≡ take at m ++ x
+unfolding pasted
+pasted-take m at x h =
+    ap (λ (l : List ℕ). take (at + length x) l) (sym (append-assoc (take at m) x (drop (at + length x) m)))
+    ∙ take-at (take at m ++ x) (drop (at + length x) m) (at + length x) (simp (length-append, length-take) (omega arith))
+
+pub pasted-drop : (m : List ℕ) (at : ℕ) (x : List ℕ) (n : ℕ) → at + length x ≤ length m → drop (at + length x + n) (pasted m at x) ≡ drop (at + length x + n) m
+unfolding pasted
+pasted-drop m at x n h =
+    let front : length (take at m ++ x) ≡ at + length x = simp (length-append, length-take) (omega arith) in
+    ap (λ (l : List ℕ). drop (at + length x + n) l) (sym (append-assoc (take at m) x (drop (at + length x) m)))
+    ∙ ap (λ (k : ℕ). drop (k + n) ((take at m ++ x) ++ drop (at + length x) m)) (sym front)
+    ∙ drop-append-add (take at m ++ x) (drop (at + length x) m) n
+    ∙ drop-drop n (at + length x) m
+
+-- one list after another is written as the two joined
+pub pasted-twice : (m : List ℕ) (at : ℕ) (x y : List ℕ) → at + length x ≤ length m → pasted (pasted m at x) (at + length x) y ≡ pasted m at (x ++ y)
+pasted-twice m at x y h =
+    open-pasted (pasted m at x) (at + length x) y
+    ∙ ap₂ (λ (p q : List ℕ). p ++ (y ++ q)) (pasted-take m at x h) (pasted-drop m at x (length y) h)
+    ∙ append-assoc (take at m) x (y ++ drop (at + length x + length y) m)
+    ∙ ap (λ (l : List ℕ). take at m ++ l) (sym (append-assoc x y (drop (at + length x + length y) m)))
+    ∙ ap (λ (k : ℕ). take at m ++ ((x ++ y) ++ drop k m)) (sum at x y)
+    ∙ sym (open-pasted m at (x ++ y))
+  where
+    open-pasted : (m : List ℕ) (at : ℕ) (x : List ℕ) → pasted m at x ≡ take at m ++ (x ++ drop (at + length x) m)
+    open-pasted m at x = pasted-is m at x
+    sum : (at : ℕ) (x y : List ℕ) → at + length x + length y ≡ at + length (x ++ y)
+    sum at x y = rw length-append (omega arith)
+
+-- bytes: of the empty list, of one more, of a part, of two joined
+pub bytes-none : Bytes []
+bytes-none i = lit< tt
+
+pub bytes-cons : (a : ℕ) (s : List ℕ) → a < 256 → Bytes s → Bytes (a ∷ s)
+bytes-cons a s h b zero = h
+bytes-cons a s h b (suc i) = b i
+
+pub bytes-head : (a : ℕ) (s : List ℕ) → Bytes (a ∷ s) → a < 256
+bytes-head a s b = b 0
+
+pub bytes-tail : (a : ℕ) (s : List ℕ) → Bytes (a ∷ s) → Bytes s
+bytes-tail a s b i = b (suc i)
+
+pub bytes-join : (s t : List ℕ) → Bytes s → Bytes t → Bytes (s ++ t)
+bytes-join [] t p q = q
+bytes-join (a ∷ s) t p q = bytes-cons a (s ++ t) (p 0) (bytes-join s t (bytes-tail a s p) q)
+
+pub bytes-left : (s t : List ℕ) → Bytes (s ++ t) → Bytes s
+bytes-left [] t p = bytes-none
+bytes-left (a ∷ s) t p = bytes-cons a s (p 0) (bytes-left s t (bytes-tail a (s ++ t) p))
+
+pub bytes-take : (n : ℕ) (s : List ℕ) → Bytes s → Bytes (take n s)
+bytes-take zero s p = bytes-none
+bytes-take (suc n) [] p = bytes-none
+bytes-take (suc n) (a ∷ s) p = bytes-cons a (take n s) (p 0) (bytes-take n s (bytes-tail a s p))
+
+pub bytes-drop : (n : ℕ) (s : List ℕ) → Bytes s → Bytes (drop n s)
+bytes-drop zero s p = p
+bytes-drop (suc n) [] p = p
+bytes-drop (suc n) (a ∷ s) p = bytes-drop n s (bytes-tail a s p)
+
+-- a number of two bytes: its bytes are bytes, it is read back, and what is read is below 65,536
+pub be16-bytes : (n : ℕ) → Bytes (be16 n)
+unfolding be16
+be16-bytes n zero = omega arith
+be16-bytes n (suc zero) = omega arith
+be16-bytes n (suc (suc i)) = lit< tt
+
+pub be16-back : (n : ℕ) (s : List ℕ) → n < 65536 → ofBe16 (be16 n ++ s) ≡ n
+unfolding be16 ofBe16
+be16-back n s h = omega arith

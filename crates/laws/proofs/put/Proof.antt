@@ -1,0 +1,30 @@
+-- `laws::put` meets its contract: the copy fills the start of the part that begins at `at`.
+-- Assumes nothing.
+use borrow.Author.Needs.{needs}
+use Rattle.laws.proofs.Lists.{copied-part}
+use Rattle.laws.proofs.put.Statement.{statement}
+use Rattle.laws.proofs.put.Tie as tie
+use Rattle.laws.proofs.put.Reads as reads
+use Rattle.laws.proofs.put.Lts as lts
+use Rattle.bytes.proofs.copy.Reads as copy-reads
+
+sub-copy : tie.Need-sub-copy
+sub-copy c = search needs
+
+part-copy-start : tie.Need-part-copy-start
+part-copy-start c = search needs
+
+part-copy-end : tie.Need-part-copy-end
+part-copy-end c = search needs
+
+copy-requires : tie.Need-copy-requires
+copy-requires c κs = search needs
+
+same-length : tie.Need-same-length
+same-length c = search needs
+
+returns : tie.Need-returns
+returns c = copied-part (c .before .before .before .before .before .before .args .buf .now) (c .before .before .before .before .before .before .args .at) (c .before .before .before .before .before .before .args .src .now) (c .before .before .copy .last .1 .0) (c .before .before .copy .ensures .1)
+
+pub put-spec : {M : Type 1} → statement M
+put-spec = tie.close (tie.spec sub-copy part-copy-start part-copy-end copy-requires same-length returns)
