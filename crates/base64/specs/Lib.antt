@@ -1,1 +1,2 @@
 pub mod Base64
+pub mod Contract

@@ -1,1 +1,590 @@
-// Base64 between a text and a lent buffer.
+// Base64 between a text and a lent buffer, in one pass each way: a table is taken once a call and lent to a leaf that does one group.
+ghost use mathlib.Core.Path.{_≡_};
+ghost use Prim.Native.Nat.{_+_, _*_, _/_, _%_, _<_, _≤_};
+ghost use mathlib.Core.List.{List, _∷_, []};
+ghost use lib.ListN.{length, getD, take};
+ghost use Rattle.laws.specs.Bytes.{pasted};
+ghost use Rattle.base64.specs.Base64.{char, value};
+ghost use Rattle.base64.specs.Contract.{Decodes, Encodes, Values, Chars, Group, Groups, Last, finalAt, fourAt, headText, textOfOne, textOfTwo};
+
+// What a text decodes to: this many bytes, or it is not well formed.
+pub enum Decoded {
+    Bytes(usize),
+    Bad,
+}
+
+// The number that each byte stands for as a character, 64 where it stands for none.
+const VALUES: [u8; 256] = [
+    64,
+    64,
+    64,
+    64,
+    64,
+    64,
+    64,
+    64,
+    64,
+    64,
+    64,
+    64,
+    64,
+    64,
+    64,
+    64,
+    64,
+    64,
+    64,
+    64,
+    64,
+    64,
+    64,
+    64,
+    64,
+    64,
+    64,
+    64,
+    64,
+    64,
+    64,
+    64,
+    64,
+    64,
+    64,
+    64,
+    64,
+    64,
+    64,
+    64,
+    64,
+    64,
+    64,
+    62,
+    64,
+    64,
+    64,
+    63,
+    52,
+    53,
+    54,
+    55,
+    56,
+    57,
+    58,
+    59,
+    60,
+    61,
+    64,
+    64,
+    64,
+    64,
+    64,
+    64,
+    64,
+    0,
+    1,
+    2,
+    3,
+    4,
+    5,
+    6,
+    7,
+    8,
+    9,
+    10,
+    11,
+    12,
+    13,
+    14,
+    15,
+    16,
+    17,
+    18,
+    19,
+    20,
+    21,
+    22,
+    23,
+    24,
+    25,
+    64,
+    64,
+    64,
+    64,
+    64,
+    64,
+    26,
+    27,
+    28,
+    29,
+    30,
+    31,
+    32,
+    33,
+    34,
+    35,
+    36,
+    37,
+    38,
+    39,
+    40,
+    41,
+    42,
+    43,
+    44,
+    45,
+    46,
+    47,
+    48,
+    49,
+    50,
+    51,
+    64,
+    64,
+    64,
+    64,
+    64,
+    64,
+    64,
+    64,
+    64,
+    64,
+    64,
+    64,
+    64,
+    64,
+    64,
+    64,
+    64,
+    64,
+    64,
+    64,
+    64,
+    64,
+    64,
+    64,
+    64,
+    64,
+    64,
+    64,
+    64,
+    64,
+    64,
+    64,
+    64,
+    64,
+    64,
+    64,
+    64,
+    64,
+    64,
+    64,
+    64,
+    64,
+    64,
+    64,
+    64,
+    64,
+    64,
+    64,
+    64,
+    64,
+    64,
+    64,
+    64,
+    64,
+    64,
+    64,
+    64,
+    64,
+    64,
+    64,
+    64,
+    64,
+    64,
+    64,
+    64,
+    64,
+    64,
+    64,
+    64,
+    64,
+    64,
+    64,
+    64,
+    64,
+    64,
+    64,
+    64,
+    64,
+    64,
+    64,
+    64,
+    64,
+    64,
+    64,
+    64,
+    64,
+    64,
+    64,
+    64,
+    64,
+    64,
+    64,
+    64,
+    64,
+    64,
+    64,
+    64,
+    64,
+    64,
+    64,
+    64,
+    64,
+    64,
+    64,
+    64,
+    64,
+    64,
+    64,
+    64,
+    64,
+    64,
+    64,
+    64,
+    64,
+    64,
+    64,
+    64,
+    64,
+    64,
+    64,
+    64,
+    64,
+    64,
+    64,
+    64,
+    64,
+    64,
+    64,
+    64,
+    64,
+    64,
+    64,
+    64,
+];
+
+// The character that stands for each number below 64.
+const CHARS: [u8; 64] = [
+    65,
+    66,
+    67,
+    68,
+    69,
+    70,
+    71,
+    72,
+    73,
+    74,
+    75,
+    76,
+    77,
+    78,
+    79,
+    80,
+    81,
+    82,
+    83,
+    84,
+    85,
+    86,
+    87,
+    88,
+    89,
+    90,
+    97,
+    98,
+    99,
+    100,
+    101,
+    102,
+    103,
+    104,
+    105,
+    106,
+    107,
+    108,
+    109,
+    110,
+    111,
+    112,
+    113,
+    114,
+    115,
+    116,
+    117,
+    118,
+    119,
+    120,
+    121,
+    122,
+    48,
+    49,
+    50,
+    51,
+    52,
+    53,
+    54,
+    55,
+    56,
+    57,
+    43,
+    47,
+];
+
+// The table of the numbers.
+fn values() -> [u8; 256]
+    ensures { λ r. ⌜ Values r ⌝ }
+{
+    VALUES
+}
+
+// The number that a character stands for, 64 where it stands for none.
+fn look(table: &[u8; 256], c: u8) -> u8
+    requires { ⌜ Values (now table) ⌝ }
+    ensures { λ r. ⌜ r ≡ value c ⌝ }
+{
+    table[c as usize]
+}
+
+// Decodes the four characters from i on to three bytes at o, where all four stand for numbers; else nothing is stored.
+fn group(table: &[u8; 256], text: &[u8], i: usize, out: &mut [u8], o: usize) -> bool
+    requires { ⌜ Values (now table) ⌝ }
+    requires { ⌜ i + 4 ≤ length (now text) ⌝ }
+    requires { ⌜ o + 3 ≤ length (now out) ⌝ }
+    ensures { λ r. ⌜ Group (now (text .entry)) i (now (out .entry)) o r (now (out .exit)) ⌝ }
+{
+    let a = look(table, text[i]);
+    let b = look(table, text[i + 1]);
+    let c = look(table, text[i + 2]);
+    let d = look(table, text[i + 3]);
+    if (a | b | c | d) < 64 {
+        out[o] = a * 4 + b / 16;
+        out[o + 1] = b % 16 * 16 + c / 4;
+        out[o + 2] = c % 4 * 64 + d;
+        return true;
+    }
+    false
+}
+
+// Decodes groups from the start until one is at fault or n are done, and gives how many were good.
+fn groups(table: &[u8; 256], text: &[u8], n: usize, out: &mut [u8]) -> usize
+    requires { ⌜ Values (now table) ⌝ }
+    requires { ⌜ 4 * n ≤ length (now text) ⌝ }
+    requires { ⌜ 3 * n ≤ length (now out) ⌝ }
+    ensures { λ r. ⌜ Groups (now (text .entry)) n (now (out .entry)) r (now (out .exit)) ⌝ }
+{
+    let mut g = 0;
+    while g < n {
+        if !group(table, text, 4 * g, out, 3 * g) {
+            return g;
+        }
+        g += 1;
+    }
+    n
+}
+
+// Decodes a last group of two characters and `==` to one byte at o, and gives how many bytes: none where it is at fault.
+fn last_one(table: &[u8; 256], text: &[u8], i: usize, out: &mut [u8], o: usize) -> usize
+    requires { ⌜ Values (now table) ⌝ }
+    requires { ⌜ i + 4 ≤ length (now text) ⌝ }
+    requires { ⌜ o + 3 ≤ length (now out) ⌝ }
+    requires { ⌜ getD (now text) (i + 2) 0 ≡ 61 ⌝ }
+    requires { ⌜ getD (now text) (i + 3) 0 ≡ 61 ⌝ }
+    ensures { λ r. ⌜ Last (finalAt (now (text .entry)) i) (now (out .entry)) o r (now (out .exit)) ⌝ }
+{
+    let a = look(table, text[i]);
+    if a >= 64 {
+        return 0;
+    }
+    let b = look(table, text[i + 1]);
+    if b >= 64 {
+        return 0;
+    }
+    if b % 16 != 0 {
+        return 0;
+    }
+    out[o] = a * 4 + b / 16;
+    1
+}
+
+// Decodes a last group of three characters and `=` to two bytes at o, and gives how many bytes: none where it is at fault.
+fn last_two(table: &[u8; 256], text: &[u8], i: usize, out: &mut [u8], o: usize) -> usize
+    requires { ⌜ Values (now table) ⌝ }
+    requires { ⌜ i + 4 ≤ length (now text) ⌝ }
+    requires { ⌜ o + 3 ≤ length (now out) ⌝ }
+    requires { ⌜ (getD (now text) (i + 2) 0 ≡ 61 → ⊥) ⌝ }
+    requires { ⌜ getD (now text) (i + 3) 0 ≡ 61 ⌝ }
+    ensures { λ r. ⌜ Last (finalAt (now (text .entry)) i) (now (out .entry)) o r (now (out .exit)) ⌝ }
+{
+    let a = look(table, text[i]);
+    if a >= 64 {
+        return 0;
+    }
+    let b = look(table, text[i + 1]);
+    if b >= 64 {
+        return 0;
+    }
+    let c = look(table, text[i + 2]);
+    if c >= 64 {
+        return 0;
+    }
+    if c % 4 != 0 {
+        return 0;
+    }
+    out[o] = a * 4 + b / 16;
+    out[o + 1] = b % 16 * 16 + c / 4;
+    2
+}
+
+// Decodes the last group to the bytes at o, and gives how many: none where it is at fault.
+fn last(table: &[u8; 256], text: &[u8], i: usize, out: &mut [u8], o: usize) -> usize
+    requires { ⌜ Values (now table) ⌝ }
+    requires { ⌜ i + 4 ≤ length (now text) ⌝ }
+    requires { ⌜ o + 3 ≤ length (now out) ⌝ }
+    ensures { λ r. ⌜ Last (finalAt (now (text .entry)) i) (now (out .entry)) o r (now (out .exit)) ⌝ }
+{
+    if text[i + 3] == 61 {
+        if text[i + 2] == 61 {
+            return last_one(table, text, i, out, o);
+        }
+        return last_two(table, text, i, out, o);
+    }
+    if group(table, text, i, out, o) {
+        return 3;
+    }
+    0
+}
+
+// Decodes a text to the start of out, in one pass: the answer is how many bytes it stands for, or that it is not well formed.
+pub fn decode(text: &[u8], out: &mut [u8]) -> Decoded
+    requires { ⌜ length (now text) / 4 * 3 ≤ length (now out) ⌝ }
+    ensures { λ r. ⌜ Decodes (now (text .entry)) (now (out .entry)) r (now (out .exit)) ⌝ }
+{
+    let n = text.len();
+    if n % 4 != 0 {
+        return Decoded::Bad;
+    }
+    if n == 0 {
+        return Decoded::Bad;
+    }
+    let table = values();
+    let before = n / 4 - 1;
+    let good = groups(&table, text, before, out);
+    if good < before {
+        return Decoded::Bad;
+    }
+    let k = last(&table, text, 4 * before, out, 3 * before);
+    if k == 0 {
+        return Decoded::Bad;
+    }
+    Decoded::Bytes(3 * before + k)
+}
+
+// The table of the characters.
+fn chars() -> [u8; 64]
+    ensures { λ r. ⌜ Chars r ⌝ }
+{
+    CHARS
+}
+
+// The character that stands for a number below 64.
+fn letter(table: &[u8; 64], v: u8) -> u8
+    requires { ⌜ Chars (now table) ⌝ }
+    requires { ⌜ v < 64 ⌝ }
+    ensures { λ r. ⌜ r ≡ char v ⌝ }
+{
+    table[v as usize]
+}
+
+// Encodes the three bytes from i on to four characters at o.
+fn encode_group(table: &[u8; 64], raw: &[u8], i: usize, out: &mut [u8], o: usize)
+    requires { ⌜ Chars (now table) ⌝ }
+    requires { ⌜ i + 3 ≤ length (now raw) ⌝ }
+    requires { ⌜ o + 4 ≤ length (now out) ⌝ }
+    ensures { λ _. ⌜ now (out .exit) ≡ pasted (now (out .entry)) o (fourAt (now (raw .entry)) i) ⌝ }
+{
+    let a = raw[i];
+    let b = raw[i + 1];
+    let c = raw[i + 2];
+    let p = letter(table, a / 4);
+    let q = letter(table, a % 4 * 16 + b / 16);
+    let r = letter(table, b % 16 * 4 + c / 64);
+    let s = letter(table, c % 64);
+    out[o] = p;
+    out[o + 1] = q;
+    out[o + 2] = r;
+    out[o + 3] = s;
+}
+
+// Encodes the first n groups of three bytes to the start of out.
+fn encode_groups(table: &[u8; 64], raw: &[u8], n: usize, out: &mut [u8])
+    requires { ⌜ Chars (now table) ⌝ }
+    requires { ⌜ 3 * n ≤ length (now raw) ⌝ }
+    requires { ⌜ 4 * n ≤ length (now out) ⌝ }
+    ensures { λ _. ⌜ now (out .exit) ≡ pasted (now (out .entry)) 0 (headText (now (raw .entry)) n) ⌝ }
+{
+    let mut g = 0;
+    while g < n {
+        encode_group(table, raw, 3 * g, out, 4 * g);
+        g += 1;
+    }
+}
+
+// Encodes a last byte to two characters and `==` at o.
+fn encode_one(table: &[u8; 64], a: u8, out: &mut [u8], o: usize)
+    requires { ⌜ Chars (now table) ⌝ }
+    requires { ⌜ o + 4 ≤ length (now out) ⌝ }
+    ensures { λ _. ⌜ now (out .exit) ≡ pasted (now (out .entry)) o (textOfOne a) ⌝ }
+{
+    let p = letter(table, a / 4);
+    let q = letter(table, a % 4 * 16);
+    out[o] = p;
+    out[o + 1] = q;
+    out[o + 2] = 61;
+    out[o + 3] = 61;
+}
+
+// Encodes the last two bytes to three characters and `=` at o.
+fn encode_two(table: &[u8; 64], a: u8, b: u8, out: &mut [u8], o: usize)
+    requires { ⌜ Chars (now table) ⌝ }
+    requires { ⌜ o + 4 ≤ length (now out) ⌝ }
+    ensures { λ _. ⌜ now (out .exit) ≡ pasted (now (out .entry)) o (textOfTwo a b) ⌝ }
+{
+    let p = letter(table, a / 4);
+    let q = letter(table, a % 4 * 16 + b / 16);
+    let r = letter(table, b % 16 * 4);
+    out[o] = p;
+    out[o + 1] = q;
+    out[o + 2] = r;
+    out[o + 3] = 61;
+}
+
+// Encodes raw to the start of out, and gives how many characters that is.
+pub fn encode(raw: &[u8], out: &mut [u8]) -> usize
+    requires { ⌜ (length (now raw) + 2) / 3 * 4 ≤ length (now out) ⌝ }
+    ensures { λ r. ⌜ Encodes (now (raw .entry)) (now (out .entry)) r (now (out .exit)) ⌝ }
+{
+    let table = chars();
+    let n = raw.len() / 3;
+    let left = raw.len() % 3;
+    encode_groups(&table, raw, n, out);
+    if left == 0 {
+        return 4 * n;
+    }
+    if left == 1 {
+        encode_one(&table, raw[3 * n], out, 4 * n);
+        return 4 * n + 4;
+    }
+    encode_two(&table, raw[3 * n], raw[3 * n + 1], out, 4 * n);
+    4 * n + 4
+}

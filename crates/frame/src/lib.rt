@@ -33,10 +33,7 @@ pub struct Taken {
 // What the sender says to a body and a frame number.
 pub enum Sent {
     // The frame stands at the buffer's start: its length, and how many frames the body takes.
-    Frame {
-        length: usize,
-        count: usize,
-    },
+    Frame { length: usize, count: usize },
     // Nothing was written.
     Refused(Refusal),
 }

@@ -24,6 +24,12 @@ unfolding pick
 pick-case P true a b f g = f refl
 pick-case P false a b f g = g refl
 
+-- two choices by one test are equal where their arms are, each under its test
+pub pick-arms : {A : Type 0} (t : Bool) {a b c d : A} → (t ≡ true → a ≡ c) → (t ≡ false → b ≡ d) → pick t a b ≡ pick t c d
+unfolding pick
+pick-arms true f g = f refl
+pick-arms false f g = g refl
+
 -- a choice whose first arm can't be z, and which is z, took the second
 pub pick-skip : {A : Type 0} (t : Bool) (a b z : A) → (a ≡ z → ⊥) → pick t a b ≡ z → (t ≡ false) × (b ≡ z)
 unfolding pick

@@ -5,8 +5,9 @@ use Prim.Native.Nat.{ℕ, zero, suc, _+_, _-_, _*_, _/_, _%_, _≤_, _<_}
 use native.Mathlib.Nat.{zero-add, add-zero}
 use native.Mathlib.Omega.{arith}
 use mathlib.Core.List.{List, [], _∷_, _++_, append-assoc, append-nil}
-use lib.ListN.{length, getD, take, drop, length-append, length-take, length-drop, take-append-drop, drop-of-length-le}
-use lib.Seq.{take-length, take-append-add, drop-append-add, drop-drop, take-all, take-at}
+use native.Mathlib.Numerals.{add-one}
+use lib.ListN.{length, getD, take, drop, set, length-set, length-append, length-take, length-drop, take-append-drop, drop-of-length-le}
+use lib.Seq.{take-length, take-append-add, drop-append-add, drop-drop, take-all, take-at, set-split}
 use lib.Dec.{lit<}
 use Rattle.laws.specs.Bytes.{Bytes, pasted, be16, ofBe16}
 
@@ -81,8 +82,21 @@ pasted-twice m at x y h =
   where
     open-pasted : (m : List ℕ) (at : ℕ) (x : List ℕ) → pasted m at x ≡ take at m ++ (x ++ drop (at + length x) m)
     open-pasted m at x = pasted-is m at x
+
     sum : (at : ℕ) (x y : List ℕ) → at + length x + length y ≡ at + length (x ++ y)
     sum at x y = rw length-append (omega arith)
+
+-- one byte stored is one byte written
+pub set-pasted : (m : List ℕ) (at v : ℕ) → at < length m → set m at v ≡ pasted m at (v ∷ [])
+unfolding pasted
+set-pasted m at v h = set-split m at v h ∙ ap (λ (n : ℕ). take at m ++ (v ∷ drop n m)) (sym (add-one at))
+
+-- two bytes stored one after the other are two bytes written
+pub set-twice-pasted : (m : List ℕ) (at v w : ℕ) → at + 1 < length m → set (set m at v) (at + 1) w ≡ pasted m at (v ∷ w ∷ [])
+set-twice-pasted m at v w h =
+    set-pasted (set m at v) (at + 1) w (simp length-set h)
+    ∙ ap (λ (l : List ℕ). pasted l (at + 1) (w ∷ [])) (set-pasted m at v (omega arith))
+    ∙ pasted-twice m at (v ∷ []) (w ∷ []) (omega arith)
 
 -- bytes: of the empty list, of one more, of a part, of two joined
 pub bytes-none : Bytes []

@@ -1,9 +1,9 @@
-// What several layers need and none owns: choices, lists of bytes and their laws (specs/, proofs/), and one function that writes a
-// run of bytes into a part of a lent buffer.
+// What several layers need and none owns: choices, lists of bytes and their laws (specs/, proofs/), and the functions on slices that
+// everyone calls.
 ghost use mathlib.Core.Path.{_≡_};
-ghost use Prim.Native.Nat.{_+_, _≤_};
-ghost use lib.ListN.{length};
-ghost use Rattle.laws.specs.Bytes.{pasted};
+ghost use Prim.Native.Nat.{_+_, _≤_, _<_};
+ghost use lib.ListN.{length, getD, replicate};
+ghost use Rattle.laws.specs.Bytes.{pasted, be16};
 
 // Writes src into buf from place at on; the other bytes of buf stay.
 pub fn put(buf: &mut [u8], at: usize, src: &[u8])
@@ -11,4 +11,38 @@ pub fn put(buf: &mut [u8], at: usize, src: &[u8])
     ensures { λ _. ⌜ now (buf .exit) ≡ pasted (now (buf .entry)) at (now (src .entry)) ⌝ }
 {
     bytes::copy(src, &mut buf[at..]);
+}
+
+// Writes n into two bytes of buf from place at on, the high one first; the other bytes of buf stay.
+pub fn put_be16(buf: &mut [u8], at: usize, n: usize)
+    requires { ⌜ at + 1 < length (now buf) ⌝ }
+    ensures { λ _. ⌜ now (buf .exit) ≡ pasted (now (buf .entry)) at (be16 n) ⌝ }
+{
+    buf[at] = (n / 256 % 256) as u8;
+    buf[at + 1] = (n % 256) as u8;
+}
+
+// Sets every byte of buf to v.
+pub fn fill(buf: &mut [u8], v: u8)
+    ensures { λ _. ⌜ now (buf .exit) ≡ replicate (length (now (buf .entry))) v ⌝ }
+{
+    let mut i = 0;
+    while i < buf.len() {
+        buf[i] = v;
+        i += 1;
+    }
+}
+
+// The byte of s at place i, or 0 past its end.
+pub fn byte_at(s: &[u8], i: usize) -> u8
+    ensures { λ r. ⌜ r ≡ getD (now (s .entry)) i 0 ⌝ }
+{
+    if i < s.len() { s[i] } else { 0 }
+}
+
+// A byte as a number with room above it.
+pub fn wide(b: u8) -> usize
+    ensures { λ r. ⌜ (r ≡ b) × (r < 256) ⌝ }
+{
+    b as usize
 }

@@ -1,0 +1,121 @@
+-- `base64::group` meets its contract: the bitwise or of four numbers is below 64 where each is, and three stores are the pasted bytes.
+-- Assumes nothing.
+use Prim.Native.Nat.{_<_}
+use native.Mathlib.Omega.{arith}
+use lib.ListN.{length-set}
+use Rattle.base64.proofs.Steps.{or-all, group-good, group-bad}
+use borrow.Author.Needs.{needs}
+use Rattle.base64.proofs.group.Statement.{statement}
+use Rattle.base64.proofs.group.Tie as tie
+use Rattle.base64.proofs.group.Reads as reads
+use Rattle.base64.proofs.group.Lts as lts
+use Rattle.base64.proofs.look.Reads as look-reads
+
+shared-slice-read-look : tie.Need-shared-slice-read-look
+shared-slice-read-look c = search needs
+
+look-requires : tie.Need-look-requires
+look-requires c κs = search needs
+
+add-look : tie.Need-add-look
+add-look c = search needs
+
+shared-slice-read-look-2 : tie.Need-shared-slice-read-look-2
+shared-slice-read-look-2 c = search needs
+
+look-requires-2 : tie.Need-look-requires-2
+look-requires-2 c κs = search needs
+
+add-look-2 : tie.Need-add-look-2
+add-look-2 c = search needs
+
+shared-slice-read-look-3 : tie.Need-shared-slice-read-look-3
+shared-slice-read-look-3 c = search needs
+
+look-requires-3 : tie.Need-look-requires-3
+look-requires-3 c κs = search needs
+
+add-look-3 : tie.Need-add-look-3
+add-look-3 c = search needs
+
+shared-slice-read-look-4 : tie.Need-shared-slice-read-look-4
+shared-slice-read-look-4 c = search needs
+
+look-requires-4 : tie.Need-look-requires-4
+look-requires-4 c κs = search needs
+
+-- the four numbers are below 64 where their bitwise or is
+small : (c : tie.Then1) → (c .before .before .before .before .before .before .before .look .result < 64) × (c .before .before .before .before .before .look2 .result < 64) × (c .before .before .before .look3 .result < 64) × (c .before .look4 .result < 64)
+small c = or-all (c .before .before .before .before .before .before .before .look .result) (c .before .before .before .before .before .look2 .result) (c .before .before .before .look3 .result) (c .before .look4 .result) (c .if1 .taken)
+
+mul-out : tie.Need-mul-out
+mul-out c = omega (arith, small c)
+
+add-out : tie.Need-add-out
+add-out c = omega (arith, small c)
+
+slice-write-out : tie.Need-slice-write-out
+slice-write-out c = search needs
+
+mul-out-2 : tie.Need-mul-out-2
+mul-out-2 c = search needs
+
+add-out-2 : tie.Need-add-out-2
+add-out-2 c = omega (arith, small c)
+
+add-out-3 : tie.Need-add-out-3
+add-out-3 c = search needs
+
+slice-write-out-2 : tie.Need-slice-write-out-2
+slice-write-out-2 c = simp length-set (omega arith)
+
+mul-out-3 : tie.Need-mul-out-3
+mul-out-3 c = search needs
+
+add-out-4 : tie.Need-add-out-4
+add-out-4 c = omega (arith, small c)
+
+add-out-5 : tie.Need-add-out-5
+add-out-5 c = search needs
+
+slice-write-out-3 : tie.Need-slice-write-out-3
+slice-write-out-3 c = simp length-set (omega arith)
+
+same-length : tie.Need-same-length
+same-length c = simp length-set
+
+returns : tie.Need-returns
+returns c = group-good (c .before .before .before .before .before .before .before .before .before .before .before .args .text .now) (c .before .before .before .before .before .before .before .before .before .before .before .args .i) (c .before .before .before .before .before .before .before .before .before .before .before .args .out .now) (c .before .before .before .before .before .before .before .before .before .before .before .args .o) (c .before .before .before .before .before .before .before .look .result) (c .before .before .before .before .before .look2 .result) (c .before .before .before .look3 .result) (c .before .look4 .result) (c .before .before .before .before .before .before .before .before .before .before .before .pre .1 .1) (c .before .before .before .before .before .before .before .look .ensures) (c .before .before .before .before .before .look2 .ensures) (c .before .before .before .look3 .ensures) (c .before .look4 .ensures) (c .if1 .taken)
+
+returns-2 : tie.Need-returns-2
+returns-2 c = group-bad (c .before .before .before .before .before .before .before .before .before .before .before .args .text .now) (c .before .before .before .before .before .before .before .before .before .before .before .args .i) (c .before .before .before .before .before .before .before .before .before .before .before .args .out .now) (c .before .before .before .before .before .before .before .before .before .before .before .args .o) (c .before .before .before .before .before .before .before .look .result) (c .before .before .before .before .before .look2 .result) (c .before .before .before .look3 .result) (c .before .look4 .result) (c .before .before .before .before .before .before .before .look .ensures) (c .before .before .before .before .before .look2 .ensures) (c .before .before .before .look3 .ensures) (c .before .look4 .ensures) (c .if1 .left)
+
+pub group-spec : {M : Type 1} → statement M
+group-spec =
+    tie.close
+    (tie.spec
+    shared-slice-read-look
+    look-requires
+    add-look
+    shared-slice-read-look-2
+    look-requires-2
+    add-look-2
+    shared-slice-read-look-3
+    look-requires-3
+    add-look-3
+    shared-slice-read-look-4
+    look-requires-4
+    mul-out
+    add-out
+    slice-write-out
+    mul-out-2
+    add-out-2
+    add-out-3
+    slice-write-out-2
+    mul-out-3
+    add-out-4
+    add-out-5
+    slice-write-out-3
+    same-length
+    returns
+    returns-2)

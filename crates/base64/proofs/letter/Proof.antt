@@ -1,0 +1,18 @@
+-- `base64::letter` meets its contract: what stands in the table at a number is its character.
+-- Assumes nothing.
+use Rattle.base64.specs.Base64.{char}
+use Rattle.base64.proofs.Steps.{entry}
+use borrow.Author.Needs.{needs}
+use Rattle.base64.proofs.letter.Statement.{statement}
+use Rattle.base64.proofs.letter.Tie as tie
+use Rattle.base64.proofs.letter.Reads as reads
+use Rattle.base64.proofs.letter.Lts as lts
+
+element-copy-out-result : tie.Need-element-copy-out-result
+element-copy-out-result c = search needs
+
+returns : tie.Need-returns
+returns c = entry char 64 (c .before .args .v) (c .before .args .table .now) (c .before .pre .0) (c .before .pre .1)
+
+pub letter-spec : {M : Type 1} → statement M
+letter-spec = tie.close (tie.spec element-copy-out-result returns)

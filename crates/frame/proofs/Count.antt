@@ -1,0 +1,93 @@
+-- How many frames a body takes: which frames are followed by another, and where frames begin and end.
+-- Assumes nothing.
+use mathlib.Core.Path.{_≡_, refl, ap, _∙_}
+use Prim.Native.Nat.{ℕ, suc, _+_, _*_, _-_, _/_, _≤_, _<_, min}
+use native.Mathlib.Numerals.{add-one}
+use native.Mathlib.Omega.{arith}
+use native.Mathlib.Decide.{decLe}
+use borrow.Author.Tests.{lt-ltb, le-ltb, le-leb, lt-leb, eq-eqb, ne-eqb}
+use Rattle.laws.proofs.Choice.{pick-yes, pick-no}
+use Rattle.frame.specs.Sender.{frameCount, startOf, stopOf}
+
+-- a body of fewer than 89 bytes takes one frame
+pub count-one : (b : ℕ) → b < 89 → frameCount b ≡ 1
+unfolding frameCount
+count-one b h = rw (lt-ltb b 89 h, pick-yes)
+
+-- a body of 89 to 182 bytes takes two
+pub count-two : (b : ℕ) → 89 ≤ b → b ≤ 182 → frameCount b ≡ 2
+unfolding frameCount
+count-two b h l = rw (le-ltb b 89 h, pick-no, le-leb b 182 l, pick-yes)
+
+-- a longer body takes one more for each further 93 bytes
+pub count-many : (b : ℕ) → 182 < b → frameCount b ≡ 2 + (b - 182 + 92) / 93
+unfolding frameCount
+count-many b h = rw (le-ltb b 89 (omega arith), pick-no, lt-leb b 182 h, pick-no)
+
+-- a fact of the count is shown in those three cases
+by-count : (P : ℕ → Type 0) (b : ℕ) → (b < 89 → P 1) → (89 ≤ b → b ≤ 182 → P 2) → (182 < b → P (2 + (b - 182 + 92) / 93)) → P (frameCount b)
+by-count P b f g h = elim (decLe 89 b) [
+  | no n ↦ rw (count-one b (omega arith)) (f (omega arith))
+  | yes l ↦ elim (decLe b 182) [
+    | yes r ↦ rw (count-two b l r) (g l r)
+    | no n ↦ rw (count-many b (omega arith)) (h (omega arith))
+  ]
+]
+
+-- there is a frame
+pub count-some : (b : ℕ) → 0 < frameCount b
+count-some b = by-count (λ (n : ℕ). 0 < n) b (λ h. omega arith) (λ h l. omega arith) (λ h. omega arith)
+
+-- a body of 89 bytes or more takes several
+pub count-several : (b : ℕ) → 89 ≤ b → 1 < frameCount b
+count-several b l = by-count (λ (n : ℕ). 1 < n) b (λ h. omega arith) (λ h l. omega arith) (λ h. omega arith)
+
+-- a frame that another follows: the body has at least 89 bytes for it besides 93 for each frame before
+pub count-next : (b k : ℕ) → k + 1 < frameCount b → 93 * k + 89 ≤ b
+count-next b k = by-count (λ (n : ℕ). k + 1 < n → 93 * k + 89 ≤ b) b (λ h e. omega arith) (λ h l e. omega arith) (λ h e. omega arith)
+
+-- a frame that another follows, and that is not the first: the body has more than that
+pub count-later : (b k : ℕ) → 0 < k → k + 1 < frameCount b → 93 * k + 89 < b
+count-later b k p = by-count (λ (n : ℕ). k + 1 < n → 93 * k + 89 < b) b (λ h e. omega arith) (λ h l e. omega arith) (λ h e. omega arith)
+
+-- the last frame: the body has at most that
+pub count-last : (b k : ℕ) → k + 1 ≡ frameCount b → b ≤ 93 * k + 89
+count-last b k = by-count (λ (n : ℕ). k + 1 ≡ n → b ≤ 93 * k + 89) b (λ h e. omega arith) (λ h l e. omega arith) (λ h e. omega arith)
+
+-- where a frame begins
+pub start-is : (b k : ℕ) → startOf b k ≡ min (93 * k) (b + 2)
+unfolding startOf
+start-is b k = refl
+
+-- a frame that is not the last ends where the next begins
+pub stop-other : (b k : ℕ) → (k + 1 ≡ frameCount b → ⊥) → stopOf b k ≡ startOf b (k + 1)
+unfolding stopOf
+stop-other b k h = rw (ne-eqb (k + 1) (frameCount b) h, pick-no)
+
+-- so does a frame that another follows
+pub stop-next : (b k : ℕ) → k + 1 < frameCount b → stopOf b k ≡ startOf b (suc k)
+stop-next b k h = stop-other b k (λ e. omega arith) ∙ ap (λ (n : ℕ). startOf b n) (add-one k)
+
+-- the last frame ends with the packet
+pub stop-last : (b k : ℕ) → k + 1 ≡ frameCount b → stopOf b k ≡ b + 4
+unfolding stopOf
+stop-last b k e = rw (eq-eqb (k + 1) (frameCount b) e, pick-yes)
+
+-- frame 0 begins at the packet's start
+pub start-first : (b : ℕ) → startOf b 0 ≡ 0
+start-first b = omega (arith, start-is b 0)
+
+-- a later frame begins after total
+pub start-later : (b k : ℕ) → 0 < k → 2 ≤ startOf b k
+start-later b k h = omega (arith, start-is b k)
+
+-- a frame ends after it begins, 93 bytes on at most, after total and within the packet
+pub piece-size : (b k : ℕ) → k < frameCount b → (startOf b k < stopOf b k) × (stopOf b k ≤ startOf b k + 93) × (2 ≤ stopOf b k) × (stopOf b k ≤ b + 4)
+piece-size b k h = elim (decLe (frameCount b) (k + 1)) [
+  | yes g ↦
+      let e : k + 1 ≡ frameCount b = omega arith in
+      omega (arith, start-is b k, stop-last b k e, count-last b k e)
+  | no g ↦
+      let e : k + 1 < frameCount b = omega arith in
+      omega (arith, start-is b k, start-is b (suc k), stop-next b k e, count-next b k e)
+]

@@ -1,0 +1,5 @@
+pub mod Noise
+pub mod Step
+pub mod Pieces
+pub mod Cuts
+pub mod Passage

@@ -1,0 +1,110 @@
+// The frame sender: frame number k of a body, as a line at the start of a lent buffer.
+use frame::Sent;
+use refusal::Refusal;
+ghost use mathlib.Core.Path.{_≡_};
+ghost use mathlib.Core.List.{List};
+ghost use Prim.Native.Nat.{ℕ, _+_, _-_, _≤_, _<_};
+ghost use lib.ListN.{length};
+ghost use Rattle.laws.specs.Bytes.{pasted};
+ghost use Rattle.frame.specs.Sender.{frameCount, startOf, stopOf, pieceOf, frameOf, outcome, sendFrame};
+ghost use Rattle.sender.specs.Piece.{headOf, toOf, fromOf, middleOf, tailOf};
+
+// A body of this many bytes or more takes more than one frame.
+const ONE_FRAME_LIMIT: usize = 89;
+
+// How many frames a body of b bytes takes.
+fn frame_count(b: usize) -> usize
+    requires { ⌜ b ≤ 65533 ⌝ }
+    ensures { λ r. ⌜ (r ≡ frameCount b) × (r ≤ 705) ⌝ }
+{
+    if b < ONE_FRAME_LIMIT {
+        return 1;
+    }
+    if b <= 182 {
+        return 2;
+    }
+    2 + (b - 182 + 92) / 93
+}
+
+// Where frame k's raw bytes begin among those of a body of b bytes.
+fn start_of(b: usize, k: usize) -> usize
+    requires { ⌜ (b ≤ 65533) × (k ≤ 705) ⌝ }
+    ensures { λ r. ⌜ r ≡ startOf b k ⌝ }
+{
+    let at = 93 * k;
+    if at < b + 2 {
+        return at;
+    }
+    b + 2
+}
+
+// Where frame k's run of the body begins.
+fn body_start(b: usize, k: usize) -> usize
+    requires { ⌜ (b ≤ 65533) × (k ≤ 705) ⌝ }
+    ensures { λ r. ⌜ r ≡ fromOf b k ⌝ }
+{
+    let start = start_of(b, k);
+    if start < 2 {
+        return 0;
+    }
+    start - 2
+}
+
+// Where frame k's run of the body ends, where the body takes `count` frames.
+fn body_end(b: usize, k: usize, count: usize) -> usize
+    requires { ⌜ (b ≤ 65533) × (k < 705) × (count ≡ frameCount b) ⌝ }
+    ensures { λ r. ⌜ (r ≡ toOf b k) × (r ≤ b) × (fromOf b k ≤ r) ⌝ }
+{
+    if k + 1 == count {
+        return b;
+    }
+    let next = start_of(b, k + 1);
+    next - 2
+}
+
+// Total, in frame 0, goes to the start of the raw bytes; gives how many bytes that is.
+fn put_head(b: usize, k: usize, raw: &mut [u8]) -> usize
+    requires { ⌜ (b ≤ 65533) × (2 ≤ length (now raw)) ⌝ }
+    ensures { λ r. ⌜ (r ≡ length (headOf b k)) × (now (raw .exit) ≡ pasted (now (raw .entry)) 0 (headOf b k)) ⌝ }
+{
+    if k == 0 {
+        laws::put_be16(raw, 0, b + 2);
+        return 2;
+    }
+    0
+}
+
+// Frame k's run of the body goes to the raw bytes from place at on; gives the place after it.
+fn put_middle(body: &[u8], k: usize, count: usize, raw: &mut [u8], at: usize) -> usize
+    requires { ⌜ (length (now body) ≤ 65533) × (k < 705) × (count ≡ frameCount (length (now body))) × (at + length (middleOf (now body) k) ≤ length (now raw)) ⌝ }
+    ensures { λ r. ⌜ (r ≡ at + length (middleOf (now (body .entry)) k)) × (now (raw .exit) ≡ pasted (now (raw .entry)) at (middleOf (now (body .entry)) k)) ⌝ }
+{
+    let b = body.len();
+    let from = body_start(b, k);
+    let to = body_end(b, k, count);
+    laws::put(raw, at, &body[from..to]);
+    at + (to - from)
+}
+
+// The CRC, in the last frame, goes to the raw bytes from place at on; gives the place after it.
+fn put_tail(body: &[u8], k: usize, count: usize, raw: &mut [u8], at: usize) -> usize
+    requires { ⌜ (k < 705) × (count ≡ frameCount (length (now body))) × (at + length (tailOf (now body) k) ≤ length (now raw)) ⌝ }
+    ensures { λ r. ⌜ (r ≡ at + length (tailOf (now (body .entry)) k)) × (now (raw .exit) ≡ pasted (now (raw .entry)) at (tailOf (now (body .entry)) k)) ⌝ }
+{
+    if k + 1 == count {
+        let crc = crc::continued(0, body);
+        laws::put_be16(raw, at, crc as usize);
+        return at + 2;
+    }
+    at
+}
+
+// Frame k's raw bytes go to the start of raw; gives how many there are.
+fn put_piece(body: &[u8], k: usize, count: usize, raw: &mut [u8]) -> usize
+    requires { ⌜ (8 ≤ length (now body)) × (length (now body) ≤ 65533) × (count ≡ frameCount (length (now body))) × (k < count) × (count ≤ 705) × (length (now raw) ≡ 93) ⌝ }
+    ensures { λ r. ⌜ (r ≡ length (pieceOf (now (body .entry)) k)) × (now (raw .exit) ≡ pasted (now (raw .entry)) 0 (pieceOf (now (body .entry)) k)) × (r ≤ 93) ⌝ }
+{
+    let at = put_head(body.len(), k, raw);
+    let after = put_middle(body, k, count, raw, at);
+    put_tail(body, k, count, raw, after)
+}
