@@ -9,7 +9,11 @@ use native.Mathlib.Numerals.{add-one}
 use lib.ListN.{length, getD, take, drop, set, length-set, length-append, length-take, length-drop, take-append-drop, drop-of-length-le}
 use lib.Seq.{take-length, take-append-add, drop-append-add, drop-drop, take-all, take-at, set-split}
 use lib.Dec.{lit<}
-use Rattle.laws.specs.Bytes.{Bytes, pasted, be16, ofBe16}
+use mathlib.Core.Bool.{Bool, true, false, false≢true}
+use lib.Dec.{eqb}
+use borrow.Author.Tests.{eqb-true, eq-eqb}
+use Rattle.laws.specs.Bytes.{Bytes, pasted, same, be16, ofBe16}
+use Rattle.laws.proofs.Choice.{both-yes, both-true}
 
 -- nothing written: nothing moves
 pub pasted-none : (m : List ℕ) (at : ℕ) → pasted m at [] ≡ m
@@ -140,3 +144,31 @@ be16-bytes n (suc (suc i)) = lit< tt
 pub be16-back : (n : ℕ) (s : List ℕ) → n < 65536 → ofBe16 (be16 n ++ s) ≡ n
 unfolding be16 ofBe16
 be16-back n s h = omega arith
+
+-- lists that are the same are equal, and a list is the same as itself
+pub same-true : (s t : List ℕ) → same s t ≡ true → s ≡ t
+unfolding same
+same-true [] [] e = refl
+same-true [] (b ∷ t) e = absurd (false≢true e)
+same-true (a ∷ s) [] e = absurd (false≢true e)
+same-true (a ∷ s) (b ∷ t) e =
+    let h = both-true (eqb a b) (same s t) e in
+    ap₂ (λ (x : ℕ) (l : List ℕ). x ∷ l) (eqb-true a b (h .0)) (same-true s t (h .1))
+
+pub same-refl : (s : List ℕ) → same s s ≡ true
+unfolding same
+same-refl [] = refl
+same-refl (a ∷ s) = rw (eq-eqb a a refl, both-yes) (same-refl s)
+
+-- lists that differ are not the same
+pub same-false : (s t : List ℕ) → (s ≡ t → ⊥) → same s t ≡ false
+same-false s t differ = decided (same s t) refl
+  where
+    decided : (b : Bool) → same s t ≡ b → same s t ≡ false
+    decided true e = absurd (differ (same-true s t e))
+    decided false e = e
+
+-- a test that holds just where two lists are equal is that test
+pub same-is : (s t : List ℕ) (b : Bool) → (b ≡ true → s ≡ t) → (s ≡ t → b ≡ true) → b ≡ same s t
+same-is s t true f g = sym (ap (λ (l : List ℕ). same s l) (sym (f refl)) ∙ same-refl s)
+same-is s t false f g = sym (same-false s t (λ e. false≢true (g e)))

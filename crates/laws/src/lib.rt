@@ -3,7 +3,7 @@
 ghost use mathlib.Core.Path.{_≡_};
 ghost use Prim.Native.Nat.{_+_, _≤_, _<_};
 ghost use lib.ListN.{length, getD, replicate};
-ghost use Rattle.laws.specs.Bytes.{pasted, be16};
+ghost use Rattle.laws.specs.Bytes.{pasted, same, be16};
 
 // Writes src into buf from place at on; the other bytes of buf stay.
 pub fn put(buf: &mut [u8], at: usize, src: &[u8])
@@ -45,4 +45,11 @@ pub fn wide(b: u8) -> usize
     ensures { λ r. ⌜ (r ≡ b) × (r < 256) ⌝ }
 {
     b as usize
+}
+
+// Whether a and b hold the same bytes.
+pub fn equal(a: &[u8], b: &[u8]) -> bool
+    ensures { λ r. ⌜ r ≡ same (now (a .entry)) (now (b .entry)) ⌝ }
+{
+    check::same(a, b)
 }

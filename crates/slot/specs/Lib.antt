@@ -1,0 +1,4 @@
+pub mod Session
+pub mod Plan
+pub mod Act
+pub mod History
