@@ -2,3 +2,4 @@ pub mod Laws
 pub mod Steps
 pub mod Runs
 pub mod Texts
+pub mod Answer

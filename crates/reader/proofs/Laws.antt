@@ -1,19 +1,26 @@
 -- The reader's definitions at each way of its tests, in the terms that the code leaves.
 -- Assumes nothing.
 use mathlib.Core.Path.{_≡_, refl, sym, ap, _∙_}
-use mathlib.Core.Bool.{true, false}
+use mathlib.Core.Bool.{Bool, true, false}
+use mathlib.Core.Option.{Option, none, some}
+use lib.Dec.{eqb}
 use mathlib.Core.List.{List, _∷_, _++_}
 use Prim.Native.Nat.{ℕ, _+_, _-_, _≤_, _<_}
 use native.Mathlib.Omega.{arith}
-use lib.ListN.{length, getD, take, drop}
+use lib.ListN.{length, getD, take, drop, length-take, length-drop}
 use lib.Seq.{getD-drop, take-all, length-take-le}
 use borrow.Author.Tests.{le-leb, lt-leb, le-ltb, lt-ltb, eq-eqb, ne-eqb}
 use Rattle.laws.specs.Bytes.{pasted, ofBe16}
-use Rattle.laws.proofs.Choice.{pick-yes, pick-no, both-yes, both-no, both-last-no}
+use Rattle.laws.proofs.Choice.{pick-yes, pick-no, pick-same, both-yes, both-no, both-last-no}
 use Rattle.laws.proofs.Lists.{pasted-none, pasted-take}
 use Rattle.crc.specs.Crc.{crcOf}
 use Rattle.frame.specs.declared.Reader.the-variants.{Idle, Open}
-use Rattle.frame.specs.Reader.{more, body, keeping, dropping, possible, bodyOf, crcBytes, filled, waiting, completed, absorb, begin, resume}
+use Rattle.frame.specs.Reader.{more, body, keeping, dropping, possible, bodyOf, crcBytes, filled, waiting, completed, absorb, begin, resume, begun, resumed, takeLine}
+use Rattle.frame.specs.declared.Reader.{Reader}
+use Rattle.frame.specs.Line.{marked, ended, textOf}
+use Rattle.base64.specs.Base64.{decode}
+use Rattle.laws.specs.Choice.{pick}
+use Rattle.reader.specs.Frame.{framed}
 
 -- the CRC bytes stand in x after the body
 pub crc-in-frame : (total come first : ℕ) (x : List ℕ) (i : ℕ) → come ≤ total - 2 → getD (crcBytes total come first x) i 0 ≡ getD x (total - 2 - come + i) 0
@@ -121,3 +128,54 @@ begin-small raw p h k = simp (le-ltb _ _ h, pick-no, lt-ltb _ _ k, pick-yes)
 pub begin-packet : (raw p : List ℕ) → 2 ≤ length raw → 10 ≤ ofBe16 raw → begin raw p ≡ absorb (ofBe16 raw) 0 0 (drop 2 raw) p
 unfolding begin
 begin-packet raw p h k = simp (le-ltb _ _ h, le-ltb _ _ k, pick-no)
+
+-- a frame whose text is not well formed, an initial one, and a partial one
+pub framed-bad : (initial : Bool) (r : Reader) (text : Option (List ℕ)) (p : List ℕ) → text ≡ none → framed initial r text p ≡ dropping 4 p
+unfolding framed begun resumed
+framed-bad initial r text p e = rw e (pick-same initial (dropping 4 p))
+
+pub framed-initial : (initial : Bool) (r : Reader) (text : Option (List ℕ)) (raw p : List ℕ) → initial ≡ true → text ≡ some raw → framed initial r text p ≡ begin raw p
+unfolding framed begun
+framed-initial initial r text raw p e f = rw (e, f, pick-yes)
+
+pub framed-partial : (initial : Bool) (r : Reader) (text : Option (List ℕ)) (raw p : List ℕ) → initial ≡ false → text ≡ some raw → framed initial r text p ≡ resume r raw p
+unfolding framed resumed
+framed-partial initial r text raw p e f = rw (e, f, pick-no)
+
+-- a line's marker, by its two bytes
+pub marked-both : (a b : ℕ) (line : List ℕ) → getD line 0 0 ≡ a → eqb (getD line 1 0) b ≡ marked a b line
+unfolding marked
+marked-both a b line h = simp (eq-eqb _ _ h, both-yes)
+
+pub marked-not : (a b : ℕ) (line : List ℕ) → (getD line 0 0 ≡ a → ⊥) → false ≡ marked a b line
+unfolding marked
+marked-not a b line h = simp (ne-eqb _ _ h, both-no)
+
+-- a line that is too long, too short, not ended, or has no marker
+pub line-long : (r : Reader) (line p : List ℕ) → 127 < length line → takeLine r line p ≡ keeping 2 r p
+unfolding takeLine
+line-long r line p h = simp (lt-ltb _ _ h, pick-yes)
+
+pub line-short : (r : Reader) (line p : List ℕ) → length line < 3 → takeLine r line p ≡ keeping 3 r p
+unfolding takeLine
+line-short r line p h =
+    let n : length line ≤ 127 = omega arith in
+    simp (le-ltb _ _ n, pick-no, lt-ltb _ _ h, pick-yes)
+
+pub line-unended : (r : Reader) (line p : List ℕ) → 3 ≤ length line → length line ≤ 127 → (getD line (length line - 1) 0 ≡ 0x0A → ⊥) → takeLine r line p ≡ keeping 3 r p
+unfolding takeLine ended
+line-unended r line p h k e = simp (le-ltb _ _ k, le-ltb _ _ h, pick-no, ne-eqb _ _ e, pick-yes)
+
+-- a line that passes: by its marker
+pub line-marked : (r : Reader) (line p : List ℕ) → 3 ≤ length line → length line ≤ 127 → getD line (length line - 1) 0 ≡ 0x0A
+    → takeLine r line p
+    ≡ pick (marked 0x06 0x09 line) (framed true r (decode (textOf line)) p)
+    (pick (marked 0x04 0x14 line) (framed false r (decode (textOf line)) p)
+    (keeping 3 r p))
+unfolding takeLine ended framed
+line-marked r line p h k e = simp (le-ltb _ _ k, le-ltb _ _ h, pick-no, eq-eqb _ _ e, pick-yes)
+
+-- a line of 127 bytes has a text of 124
+pub text-size : (line : List ℕ) → length (textOf line) ≤ length line - 3
+unfolding textOf
+text-size line = simp (length-take, length-drop) (omega arith)

@@ -1,4 +1,5 @@
 // The frame reader: one line at a time becomes "more", a packet, or one refusal.
+use base64::Decoded;
 use frame::Answer;
 use frame::Reader;
 use frame::Taken;
@@ -9,7 +10,11 @@ ghost use Prim.Native.Nat.{ℕ, _+_, _-_, _≤_, _<_};
 ghost use lib.ListN.{length, getD, take};
 ghost use Rattle.laws.specs.Bytes.{pasted, ofBe16};
 ghost use Rattle.crc.specs.Crc.{crcOf};
-ghost use Rattle.frame.specs.Reader.{outcome, crcBytes, filled, waiting, completed, absorb, begin, resume};
+ghost use Rattle.frame.specs.Reader.{outcome, crcBytes, filled, waiting, completed, absorb, begin, resume, takeLine};
+ghost use Rattle.reader.specs.Frame.{framed};
+ghost use Rattle.base64.specs.Base64.{decode};
+ghost use Rattle.base64.specs.Contract.{Decodes};
+ghost use Rattle.frame.specs.Line.{marked, textOf};
 
 // The packet buffer takes the body bytes among x, which come on top of `come` others.
 fn fill(total: usize, come: usize, x: &[u8], p: &mut [u8])
@@ -197,4 +202,78 @@ fn resume_packet(reader: Reader, raw: &[u8], p: &mut [u8]) -> Taken
         };
     }
     take_bytes(total, come, first, raw, p)
+}
+
+// A line's text, between its marker and its 0A, is handed to the Base64 decoder as the part of the line that it is.
+fn decode_text(line: &[u8], raw: &mut [u8]) -> Decoded
+    requires { ⌜ (3 ≤ length (now line)) × (length (now line) ≤ 127) × (length (now raw) ≡ 93) ⌝ }
+    ensures { λ r. ⌜ Decodes (textOf (now (line .entry))) (now (raw .entry)) r (now (raw .exit)) ⌝ }
+{
+    let end = line.len() - 1;
+    base64::decode(&line[2..end], raw)
+}
+
+// A frame: its text is decoded, and begins a packet or goes on with the open one.
+fn take_frame(initial: bool, reader: Reader, line: &[u8], p: &mut [u8]) -> Taken
+    requires { ⌜ (3 ≤ length (now line)) × (length (now line) ≤ 127) ⌝ }
+    ensures { λ r. ⌜ outcome r (now (p .exit)) ≡ framed initial reader (decode (textOf (now (line .entry)))) (now (p .entry)) ⌝ }
+{
+    let mut raw = [0u8; 93];
+    let Decoded::Bytes(n) = decode_text(line, &mut raw) else {
+        return Taken {
+            answer: Answer::Refused(Refusal::BadText),
+            reader: Reader::Idle,
+        };
+    };
+    if initial {
+        return begin_packet(&raw[..n], p);
+    }
+    resume_packet(reader, &raw[..n], p)
+}
+
+// Whether a line begins with the bytes a and b.
+fn begins(line: &[u8], a: u8, b: u8) -> bool
+    requires { ⌜ 2 ≤ length (now line) ⌝ }
+    ensures { λ r. ⌜ r ≡ marked a b (now (line .entry)) ⌝ }
+{
+    if line[0] == a {
+        return line[1] == b;
+    }
+    false
+}
+
+// Takes one line, with its 0A: more is wanted, a packet stands in the packet buffer, or the line is refused. Gives the record for the
+// next line.
+pub fn take_line(reader: Reader, line: &[u8], p: &mut [u8]) -> Taken
+    ensures { λ r. ⌜ outcome r (now (p .exit)) ≡ takeLine reader (now (line .entry)) (now (p .entry)) ⌝ }
+{
+    let n = line.len();
+    if 127 < n {
+        return Taken {
+            answer: Answer::Refused(Refusal::LineTooLong),
+            reader,
+        };
+    }
+    if n < 3 {
+        return Taken {
+            answer: Answer::Refused(Refusal::NoFrame),
+            reader,
+        };
+    }
+    if line[n - 1] != 0x0A {
+        return Taken {
+            answer: Answer::Refused(Refusal::NoFrame),
+            reader,
+        };
+    }
+    if begins(line, 0x06, 0x09) {
+        return take_frame(true, reader, line, p);
+    }
+    if begins(line, 0x04, 0x14) {
+        return take_frame(false, reader, line, p);
+    }
+    Taken {
+        answer: Answer::Refused(Refusal::NoFrame),
+        reader,
+    }
 }
