@@ -1,21 +1,20 @@
 -- The laws of strict Base64: what is encoded is decoded again, what decodes is the encoding of its bytes, and the lengths and bounds of both.
 -- Assumes nothing.
 use mathlib.Core.Path.{_≡_, refl, sym, ap, ap₂, _∙_}
-use Prim.Native.Nat.{ℕ, zero, suc, _+_, _-_, _*_, _/_, _%_, _≤_, _<_}
-use native.Mathlib.Nat.{zero-add, add-zero}
+use Prim.Native.Nat.{ℕ, zero, suc, _+_, _*_, _/_, _%_, _≤_, _<_}
 use native.Mathlib.Omega.{arith}
-use native.Mathlib.Decide.{decLt, decLe}
+use native.Mathlib.Decide.{decLt}
 use mathlib.Core.Bool.{Bool, true, false, false≢true}
-use mathlib.Core.List.{List, [], _∷_, _++_, append-assoc, append-nil}
+use mathlib.Core.List.{List, [], _∷_, _++_, append-nil}
 use mathlib.Core.Option.{Option, none, some}
-use lib.ListN.{length, getD, take, drop, length-append}
-use lib.Dec.{ltb, leb, eqb, lit<}
-use borrow.Author.Tests.{ltb-true, ltb-false, leb-true, leb-false, eqb-true, eqb-false, lt-ltb, le-ltb, le-leb, lt-leb, eq-eqb, ne-eqb}
+use lib.ListN.{length, length-append}
+use lib.Dec.{ltb, eqb, lit<}
+use borrow.Author.Tests.{ltb-true, eqb-true, eqb-false, lt-ltb, le-leb, lt-leb, eq-eqb, ne-eqb}
 use Rattle.laws.specs.Choice.{pick, both}
 use Rattle.laws.specs.Bytes.{Bytes}
-use Rattle.laws.proofs.Choice.{pick-yes, pick-no, pick-same, pick-case, pick-skip, pick-keep, both-yes, both-no, both-last-no, both-true}
-use Rattle.laws.proofs.Lists.{bytes-none, bytes-cons, bytes-head, bytes-tail, bytes-join}
-use Rattle.base64.specs.Base64.{char, value, among, pad, encode, known, first, second, third, full, three, final, ahead, decode}
+use Rattle.laws.proofs.Choice.{pick-yes, pick-no, pick-case, pick-keep, both-yes, both-true}
+use Rattle.laws.proofs.Lists.{bytes-none, bytes-cons, bytes-join}
+use Rattle.base64.specs.Base64.{char, value, pad, encode, known, first, second, third, full, three, final, ahead, decode}
 use Rattle.base64.specs.Contract.{bytesIn, kept, stored}
 
 -- a test that holds of every number below n
@@ -77,43 +76,50 @@ value-char c h =
       | no l ↦ absurd (let e : value c ≡ 64 = far c (omega arith) in omega arith)
     ]
 
--- the last group of one byte, of two and of three decodes to its bytes
+-- the last group of one byte decodes to it
 final-one : (p q : ℕ) → p < 64 → q < 64 → q % 16 ≡ 0 → final (char p) (char q) pad pad ≡ some (first p q ∷ [])
 unfolding final
 final-one p q hp hq z =
     rw (char-value p hp, char-value q hq, lt-ltb p 64 hp, lt-ltb q 64 hq, eq-eqb (q % 16) 0 z) (simp (pick-yes, both-yes))
 
+-- the last group of two bytes decodes to them
 final-two : (p q r : ℕ) → p < 64 → q < 64 → r < 64 → r % 4 ≡ 0 → final (char p) (char q) (char r) pad ≡ some (first p q ∷ second q r ∷ [])
 unfolding final
 final-two p q r hp hq hr z =
     rw (char-other r hr, char-value p hp, char-value q hq, char-value r hr, lt-ltb p 64 hp, lt-ltb q 64 hq, lt-ltb r 64 hr, eq-eqb (r % 4) 0 z)
     (simp (pick-yes, pick-no, both-yes))
 
+-- the characters of four numbers are a full group
 full-chars : (p q r s : ℕ) → p < 64 → q < 64 → r < 64 → s < 64 → full (char p) (char q) (char r) (char s) ≡ true
 unfolding full
 full-chars p q r s hp hq hr hs =
     rw (char-value p hp, char-value q hq, char-value r hr, char-value s hs, lt-ltb p 64 hp, lt-ltb q 64 hq, lt-ltb r 64 hr, lt-ltb s 64 hs)
     (simp both-yes)
 
+-- whose three bytes are those of the numbers
 three-chars : (p q r s : ℕ) → p < 64 → q < 64 → r < 64 → s < 64 → three (char p) (char q) (char r) (char s) ≡ first p q ∷ second q r ∷ third r s ∷ []
 unfolding three
 three-chars p q r s hp hq hr hs = rw (char-value p hp, char-value q hq, char-value r hr, char-value s hs) refl
 
+-- the last group of three bytes decodes to them
 final-three : (p q r s : ℕ) → p < 64 → q < 64 → r < 64 → s < 64 → final (char p) (char q) (char r) (char s) ≡ some (first p q ∷ second q r ∷ third r s ∷ [])
 unfolding final
 final-three p q r s hp hq hr hs =
     rw (char-other s hs, full-chars p q r s hp hq hr hs, three-chars p q r s hp hq hr hs) (simp (pick-yes, pick-no))
 
--- three bytes are those of their four numbers
+-- the first byte comes back from its two numbers
 same-first : (a b : ℕ) → a < 256 → b < 256 → first (a / 4) (a % 4 * 16 + b / 16) ≡ a
 same-first a b h k = omega arith
 
+-- the second byte comes back from its two numbers
 same-second : (a b c : ℕ) → a < 256 → b < 256 → c < 256 → second (a % 4 * 16 + b / 16) (b % 16 * 4 + c / 64) ≡ b
 same-second a b c h k l = omega arith
 
+-- the third byte comes back from its two numbers
 same-third : (b c : ℕ) → b < 256 → c < 256 → third (b % 16 * 4 + c / 64) (c % 64) ≡ c
 same-third b c k l = omega arith
 
+-- three bytes come back from their four numbers
 bytes-same : (a b c : ℕ) → a < 256 → b < 256 → c < 256 → first (a / 4) (a % 4 * 16 + b / 16) ∷ second (a % 4 * 16 + b / 16) (b % 16 * 4 + c / 64) ∷ third (b % 16 * 4 + c / 64) (c % 64) ∷ [] ≡ a ∷ b ∷ c ∷ []
 bytes-same a b c ha hb hc = rw (same-first a b ha hb, same-second a b c ha hb hc, same-third b c hb hc) refl
 
@@ -205,6 +211,7 @@ module _ (P : ℕ → ℕ → ℕ → ℕ → List ℕ → Type 0) where
       let same : y ≡ x = let u : some y ≡ some x = w .1 in cc in
       rw same at (f (w .0))
 
+  -- the principle, by the tests of a last group
   pub final-elim : ((a b : ℕ) → value a < 64 → value b < 64 → value b % 16 ≡ 0 → P a b pad pad (first (value a) (value b) ∷ [])) → ((a b c : ℕ) → value a < 64 → value b < 64 → value c < 64 → value c % 4 ≡ 0 → P a b c pad (first (value a) (value b) ∷ second (value b) (value c) ∷ [])) → ((a b c d : ℕ) → full a b c d ≡ true → P a b c d (three a b c d)) → (a b c d : ℕ) (x : List ℕ) → final a b c d ≡ some x → P a b c d x
   unfolding final
   final-elim one two all a b c d x =
@@ -250,6 +257,7 @@ encode-final = final-elim (λ (a b c d : ℕ) (x : List ℕ). encode x ≡ a ∷
 
 -- what holds of the bytes of each last group, and of a full group's bytes before those of which it holds, holds of all that decodes
 module _ (P : List ℕ → List ℕ → Type 0) (last : (a b c d : ℕ) (x : List ℕ) → final a b c d ≡ some x → P (a ∷ b ∷ c ∷ d ∷ []) x) (more : (a b c d : ℕ) (t x : List ℕ) → 0 < length t → full a b c d ≡ true → decode t ≡ some x → P t x → P (a ∷ b ∷ c ∷ d ∷ t) (three a b c d ++ x)) where
+  -- the principle, group by group
   pub decode-elim : (t x : List ℕ) → decode t ≡ some x → P t x
   unfolding decode
   decode-elim [] x e = absurd (none-some x e)

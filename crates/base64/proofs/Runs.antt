@@ -2,18 +2,16 @@
 -- the whole text with its last group.
 -- Assumes nothing.
 use mathlib.Core.Path.{_≡_, refl, sym, ap, ap₂, _∙_}
-use Prim.Native.Nat.{ℕ, zero, suc, _+_, _-_, _*_, _/_, _%_, _≤_, _<_}
-use native.Mathlib.Nat.{zero-add, add-zero}
+use Prim.Native.Nat.{ℕ, zero, suc, _+_, _-_, _*_, _%_, _≤_, _<_}
+use native.Mathlib.Nat.{zero-add}
 use native.Mathlib.Numerals.{add-one, add-two, add-three, add-four}
 use native.Mathlib.Omega.{arith}
-use mathlib.Core.Bool.{Bool, true, false, false≢true}
+use mathlib.Core.Bool.{Bool, true, false}
 use mathlib.Core.List.{List, [], _∷_, _++_, append-assoc, append-nil}
 use mathlib.Core.Option.{Option, none, some}
-use lib.ListN.{length, getD, take, drop, length-append, length-drop, drop-of-length-le}
+use lib.ListN.{length, getD, drop, length-append, length-drop, drop-of-length-le}
 use lib.Seq.{drop-cons}
-use lib.Dec.{eqb}
 use borrow.Author.Tests.{eq-eqb, ne-eqb}
-use Rattle.base64.specs.declared.Decoded.{Decoded}
 use Rattle.base64.specs.declared.Decoded.the-variants.{Bytes, Bad}
 use Rattle.laws.specs.Choice.{pick}
 use Rattle.laws.proofs.Choice.{pick-yes, pick-no, pick-case, pick-keep}
@@ -52,6 +50,7 @@ run-first g a b c d t e =
 
 -- what holds of no group, and of one full group before a run of which it holds, holds of every run of full groups
 module _ (P : ℕ → List ℕ → Type 0) (base : (t : List ℕ) → P 0 t) (more : (g a b c d : ℕ) (t : List ℕ) → full a b c d ≡ true → P g t → P (suc g) (a ∷ b ∷ c ∷ d ∷ t)) where
+  -- the principle, group by group
   run-elim : (g : ℕ) (t : List ℕ) → runCount g t ≡ g → P g t
   unfolding runCount
   run-elim zero t e = base t
@@ -103,11 +102,12 @@ unfolding ahead
 ahead-twice x y none = refl
 ahead-twice x y (some z) = ap some (sym (append-assoc x y z))
 
--- a text of one group
+-- a text of one group keeps the bytes of that last group
 one-kept : (a b c d : ℕ) → kept (a ∷ b ∷ c ∷ d ∷ []) ≡ bytesIn (final a b c d)
 unfolding kept
 one-kept a b c d = refl
 
+-- a text of one group is read as a last group
 one-decoded : (a b c d : ℕ) → decode (a ∷ b ∷ c ∷ d ∷ []) ≡ final a b c d
 unfolding decode
 one-decoded a b c d = refl
@@ -181,11 +181,12 @@ run-most (suc g) (a ∷ b ∷ c ∷ []) = omega arith
 run-most (suc g) (a ∷ b ∷ c ∷ d ∷ t) =
     pick-case (λ (n : ℕ). n ≤ suc g) (full a b c d) (suc (runCount g t)) 0 (λ e. omega (arith, run-most g t)) (λ e. omega arith)
 
--- a text in groups of four stores what it keeps, and any other nothing
+-- a text in groups of four stores what it keeps
 stored-kept : (t : List ℕ) → length t % 4 ≡ 0 → stored t ≡ kept t
 unfolding stored
 stored-kept t h = rw (eq-eqb (length t % 4) 0 h) (pick-yes (kept t) [])
 
+-- a text that is not in groups of four stores nothing
 stored-none : (t : List ℕ) → (length t % 4 ≡ 0 → ⊥) → stored t ≡ []
 unfolding stored
 stored-none t h = rw (ne-eqb (length t % 4) 0 h) (pick-no (kept t) [])
@@ -213,7 +214,7 @@ decodes-broken t d e g r h w l =
     let b = broken g t h (omega arith) in
     record { verdict = rw (b .1) refl; bytes = w .bytes ∙ rw (stored-kept t (omega arith), b .0) refl }
 
--- the answer to bytes before a last group: none where it has no byte, else how many they are together
+-- bytes before a last group that has none are of a text that is not well formed
 length-bad : (x : List ℕ) (a b c d k : ℕ) → k ≡ length (bytesIn (final a b c d)) → k ≡ 0 → lengthIn (ahead x (final a b c d)) ≡ Bad
 unfolding lengthIn bytesIn ahead
 length-bad x a b c d k e z = by-case (final a b c d) refl (sym e ∙ z)
@@ -222,6 +223,7 @@ length-bad x a b c d k e z = by-case (final a b c d) refl (sym e ∙ z)
     by-case none f l = refl
     by-case (some y) f l = absurd (omega (arith, final-length a b c d y f))
 
+-- bytes before a last group that has some are as many as both together
 length-good : (x : List ℕ) (o : Option (List ℕ)) (n k : ℕ) → length x ≡ n → k ≡ length (bytesIn o) → (k ≡ 0 → ⊥) → lengthIn (ahead x o) ≡ Bytes (n + k)
 unfolding lengthIn bytesIn ahead
 length-good x none n k h e z = absurd (z e)

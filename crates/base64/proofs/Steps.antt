@@ -1,26 +1,23 @@
 -- What the proofs of the code stand on: an entry of a table, the test of a group by a bitwise or, and stores as a pasted list.
 -- Assumes nothing.
-use mathlib.Core.Path.{_≡_, refl, sym, ap, ap₂, _∙_}
-use Prim.Native.Nat.{ℕ, zero, suc, _+_, _-_, _*_, _/_, _%_, _≤_, _<_}
+use mathlib.Core.Path.{_≡_, refl, sym, ap, _∙_}
+use Prim.Native.Nat.{ℕ, zero, suc, _+_, _*_, _/_, _%_, _≤_, _<_}
 use native.Mathlib.Nat.{zero-add, add-zero, add-suc, suc-add}
 use native.Mathlib.Numerals.{add-one, add-two, add-three}
 use native.Mathlib.Omega.{arith}
-use native.Mathlib.Decide.{decLt, decLe}
-use mathlib.Core.Bool.{Bool, true, false, false≢true}
-use mathlib.Core.List.{List, [], _∷_, _++_, append-assoc, append-nil}
+use mathlib.Core.Bool.{Bool, true, false}
+use mathlib.Core.List.{List, [], _∷_, append-assoc}
 use mathlib.Core.Option.{Option, none, some}
-use lib.ListN.{length, getD, take, drop, set, length-append, length-set}
-use lib.Seq.{sets, sets-eq, drop-cons, getD-drop}
-use lib.Dec.{ltb, leb, eqb, lit<}
+use lib.ListN.{length, getD, take, drop, set}
+use lib.Seq.{sets-eq}
 use lib.Bits.{bitOr, bitAnd, or-lt, or-add-and, and-le-l, and-le-r}
-use borrow.Author.Tests.{ltb-true, ltb-false, lt-ltb, le-ltb, eqb-true, eqb-false, eq-eqb, ne-eqb}
-use Rattle.laws.specs.Choice.{pick, both}
-use Rattle.laws.specs.Bytes.{Bytes, pasted}
-use Rattle.laws.proofs.Choice.{pick-yes, pick-no, pick-case, pick-skip, pick-keep, both-yes, both-no, both-last-no, both-true}
-use Rattle.laws.proofs.Lists.{pasted-none, pasted-start, pasted-length, pasted-twice}
-use Rattle.base64.specs.Base64.{char, value, pad, encode, known, first, second, third, full, three, final, ahead, decode}
-use Rattle.base64.specs.Contract.{Group, Groups, Last, bytesIn, lengthIn, kept, stored, tab, fullAt, threeAt, finalAt, runCount, run, four, fourAt}
-use Rattle.base64.proofs.Laws.{known-all, three-length}
+use borrow.Author.Tests.{lt-ltb, le-ltb, eq-eqb, ne-eqb}
+use Rattle.laws.specs.Bytes.{pasted}
+use Rattle.laws.proofs.Choice.{pick-yes, pick-no, both-yes, both-no, both-last-no}
+use Rattle.laws.proofs.Lists.{pasted-none}
+use Rattle.base64.specs.Base64.{value, full, three, final}
+use Rattle.base64.specs.Contract.{Group, Last, bytesIn, tab, fullAt, threeAt, finalAt}
+use Rattle.base64.proofs.Laws.{known-all}
 
 -- an entry of a table
 pub tab-at : (f : ℕ → ℕ) (i n k : ℕ) → k < n → getD (tab f i n) k 0 ≡ f (i + k)
@@ -33,10 +30,11 @@ tab-at f i (suc n) (suc k) h = tab-at f (suc i) n k (omega arith) ∙ ap f (suc-
 pub entry : (f : ℕ → ℕ) (n k : ℕ) (s : List ℕ) → s ≡ tab f 0 n → k < n → getD s k 0 ≡ f k
 entry f n k s e h = ap (λ (l : List ℕ). getD l k 0) e ∙ tab-at f 0 n k h ∙ ap f (zero-add k)
 
--- a bitwise or is at least each of its two numbers
+-- a bitwise or is at least its first number
 or-left : (a b : ℕ) → a ≤ bitOr a b
 or-left a b = let e : bitOr a b + bitAnd a b ≡ a + b = or-add-and a b in let l : bitAnd a b ≤ b = and-le-r a b in omega arith
 
+-- a bitwise or is at least its second number
 or-right : (a b : ℕ) → b ≤ bitOr a b
 or-right a b = let e : bitOr a b + bitAnd a b ≡ a + b = or-add-and a b in let l : bitAnd a b ≤ a = and-le-l a b in omega arith
 
@@ -73,19 +71,22 @@ full-no a b c d h = by-case (full a b c d) refl
         absurd (omega arith)
     by-case false e = refl
 
--- one, two, three and four stores from a place on are a pasted list
+-- one store is one pasted number
 pub store-one : (m : List ℕ) (o a : ℕ) → o + 1 ≤ length m → set m o a ≡ pasted m o (a ∷ [])
 unfolding pasted
 store-one m o a h = sets-eq (a ∷ []) m o h ∙ append-assoc (take o m) (a ∷ []) (drop (o + 1) m)
 
+-- two stores are two pasted numbers
 pub store-two : (m : List ℕ) (o a b : ℕ) → o + 2 ≤ length m → set (set m o a) (o + 1) b ≡ pasted m o (a ∷ b ∷ [])
 unfolding pasted
 store-two m o a b h = rw add-one (sets-eq (a ∷ b ∷ []) m o h ∙ append-assoc (take o m) (a ∷ b ∷ []) (drop (o + 2) m))
 
+-- three stores are three pasted numbers
 pub store-three : (m : List ℕ) (o a b c : ℕ) → o + 3 ≤ length m → set (set (set m o a) (o + 1) b) (o + 2) c ≡ pasted m o (a ∷ b ∷ c ∷ [])
 unfolding pasted
 store-three m o a b c h = rw (add-one, add-two) (sets-eq (a ∷ b ∷ c ∷ []) m o h ∙ append-assoc (take o m) (a ∷ b ∷ c ∷ []) (drop (o + 3) m))
 
+-- four stores are four pasted numbers
 pub store-four : (m : List ℕ) (o a b c d : ℕ) → o + 4 ≤ length m → set (set (set (set m o a) (o + 1) b) (o + 2) c) (o + 3) d ≡ pasted m o (a ∷ b ∷ c ∷ d ∷ [])
 unfolding pasted
 store-four m o a b c d h =
@@ -116,40 +117,49 @@ last-good x y m o e s p = record { count = rw s refl; bytes = rw s p }
 
 -- two characters and `==`: each fault, and none
 module _ (a b c d p q : ℕ) (ec : c ≡ 61) (ed : d ≡ 61) (ea : p ≡ value a) (eb : q ≡ value b) where
+  -- the first character stands for no number
   pub one-bad-first : 64 ≤ p → final a b c d ≡ none
   unfolding final
   one-bad-first h = rw (ed, ec, ← ea, le-ltb p 64 h) (simp (both-no, pick-yes, pick-no))
 
+  -- the second character stands for no number
   pub one-bad-second : 64 ≤ q → final a b c d ≡ none
   unfolding final
   one-bad-second h = rw (ed, ec, ← eb, le-ltb q 64 h) (simp (both-no, both-last-no, pick-yes, pick-no))
 
+  -- the unused bits are not zero
   pub one-bad-bits : (q % 16 ≡ 0 → ⊥) → final a b c d ≡ none
   unfolding final
   one-bad-bits h = rw (ed, ec, ← eb, ne-eqb (q % 16) 0 h) (simp (both-last-no, pick-yes, pick-no))
 
+  -- no fault: one byte
   pub one-good : p < 64 → q < 64 → q % 16 ≡ 0 → final a b c d ≡ some ((p * 4 + q / 16) ∷ [])
   unfolding final
   one-good hp hq z = rw (ed, ec, ← ea, ← eb, lt-ltb p 64 hp, lt-ltb q 64 hq, eq-eqb (q % 16) 0 z) (simp (both-yes, pick-yes))
 
 -- three characters and `=`: each fault, and none
 module _ (a b c d p q r : ℕ) (ec : c ≡ 61 → ⊥) (ed : d ≡ 61) (ea : p ≡ value a) (eb : q ≡ value b) (er : r ≡ value c) where
+  -- the first character stands for no number
   pub two-bad-first : 64 ≤ p → final a b c d ≡ none
   unfolding final
   two-bad-first h = rw (ed, ne-eqb c 61 ec, ← ea, le-ltb p 64 h) (simp (both-no, pick-yes, pick-no))
 
+  -- the second character stands for no number
   pub two-bad-second : 64 ≤ q → final a b c d ≡ none
   unfolding final
   two-bad-second h = rw (ed, ne-eqb c 61 ec, ← eb, le-ltb q 64 h) (simp (both-no, both-last-no, pick-yes, pick-no))
 
+  -- the third character stands for no number
   pub two-bad-third : 64 ≤ r → final a b c d ≡ none
   unfolding final
   two-bad-third h = rw (ed, ne-eqb c 61 ec, ← er, le-ltb r 64 h) (simp (both-no, both-last-no, pick-yes, pick-no))
 
+  -- the unused bits are not zero
   pub two-bad-bits : (r % 4 ≡ 0 → ⊥) → final a b c d ≡ none
   unfolding final
   two-bad-bits h = rw (ed, ne-eqb c 61 ec, ← er, ne-eqb (r % 4) 0 h) (simp (both-last-no, pick-yes, pick-no))
 
+  -- no fault: two bytes
   pub two-good : p < 64 → q < 64 → r < 64 → r % 4 ≡ 0 → final a b c d ≡ some ((p * 4 + q / 16) ∷ (q % 16 * 16 + r / 4) ∷ [])
   unfolding final
   two-good hp hq hr z =
@@ -157,12 +167,14 @@ module _ (a b c d p q r : ℕ) (ec : c ≡ 61 → ⊥) (ed : d ≡ 61) (ea : p �
 
 -- a last group that is not filled up is a full group or at fault
 module _ (t : List ℕ) (i : ℕ) (m : List ℕ) (o : ℕ) (r : Bool) (e : List ℕ) (ed : getD t (i + 3) 0 ≡ 61 → ⊥) (g : Group t i m o r e) where
+  -- it is full: three bytes
   pub all-good : r ≡ true → Last (finalAt t i) m o 3 e
   unfolding final three
   all-good h =
       let f : fullAt t i ≡ true = sym (g .verdict) ∙ h in
       last-good (finalAt t i) (threeAt t i) m o e (rw (ne-eqb (getD t (i + 3) 0) 61 ed, f) (simp (pick-yes, pick-no))) (g .bytes ∙ rw (f, pick-yes) refl)
 
+  -- it is not: no byte
   pub all-bad : r ≡ false → Last (finalAt t i) m o 0 e
   unfolding final
   all-bad h =

@@ -1,11 +1,11 @@
 -- What the proofs of the encoder stand on: the text of whole groups before more bytes, one group more, and the whole text with its end.
 -- Assumes nothing.
-use mathlib.Core.Path.{_≡_, refl, sym, ap, ap₂, _∙_}
-use Prim.Native.Nat.{ℕ, zero, suc, _+_, _-_, _*_, _/_, _%_, _≤_, _<_}
-use native.Mathlib.Numerals.{add-one, add-two, add-three}
+use mathlib.Core.Path.{_≡_, refl, ap, _∙_}
+use Prim.Native.Nat.{ℕ, zero, suc, _+_, _*_, _/_, _%_, _≤_, _<_}
+use native.Mathlib.Numerals.{add-one, add-two}
 use native.Mathlib.Omega.{arith}
-use mathlib.Core.List.{List, [], _∷_, _++_, append-assoc, append-nil}
-use lib.ListN.{length, getD, take, drop, set, length-append, length-take, length-drop, take-append-drop, drop-of-length-le}
+use mathlib.Core.List.{List, [], _∷_, _++_}
+use lib.ListN.{length, getD, take, drop, set, length-take, take-append-drop, drop-of-length-le}
 use lib.Seq.{drop-cons, take-add, take-all}
 use Rattle.laws.specs.Bytes.{pasted}
 use Rattle.base64.specs.Base64.{char, encode}
@@ -66,6 +66,7 @@ encodes-end x y d b e g low high room ey eb ee =
           ∙ pasted-next d (headText x g) (encode y) (4 * g) (head-length x g (omega arith)) (omega arith));
     }
 
+-- bytes in whole groups, and one more
 pub encodes-one : (x d b e : List ℕ) (g : ℕ) → length x ≡ 3 * g + 1 → 4 * g + 4 ≤ length d → b ≡ pasted d 0 (headText x g) → e ≡ pasted b (4 * g) (encode (getD x (3 * g) 0 ∷ [])) → Encodes x d (4 * g + 4) e
 encodes-one x d b e g h room eb ee =
     encodes-end x (getD x (3 * g) 0 ∷ []) d b e g (omega arith) (omega arith) room
@@ -73,6 +74,7 @@ encodes-one x d b e g h room eb ee =
     eb
     ee
 
+-- bytes in whole groups, and two more
 pub encodes-two : (x d b e : List ℕ) (g : ℕ) → length x ≡ 3 * g + 2 → 4 * g + 4 ≤ length d → b ≡ pasted d 0 (headText x g) → e ≡ pasted b (4 * g) (encode (getD x (3 * g) 0 ∷ getD x (3 * g + 1) 0 ∷ [])) → Encodes x d (4 * g + 4) e
 encodes-two x d b e g h room eb ee =
     encodes-end x (getD x (3 * g) 0 ∷ getD x (3 * g + 1) 0 ∷ []) d b e g (omega arith) (omega arith) room
@@ -83,15 +85,17 @@ encodes-two x d b e g h room eb ee =
     eb
     ee
 
--- four stores that are the text of three bytes, of one and of two
+-- four stores that are the text of three bytes
 pub text-three : (m : List ℕ) (o a b c p q r s : ℕ) → o + 4 ≤ length m → p ≡ char (a / 4) → q ≡ char (a % 4 * 16 + b / 16) → r ≡ char (b % 16 * 4 + c / 64) → s ≡ char (c % 64) → set (set (set (set m o p) (o + 1) q) (o + 2) r) (o + 3) s ≡ pasted m o (four a b c)
 unfolding four
 text-three m o a b c p q r s h ep eq er es = rw (← ep, ← eq, ← er, ← es) (store-four m o p q r s h)
 
+-- four stores that are the text of one byte
 pub text-one : (m : List ℕ) (o a p q : ℕ) → o + 4 ≤ length m → p ≡ char (a / 4) → q ≡ char (a % 4 * 16) → set (set (set (set m o p) (o + 1) q) (o + 2) 61) (o + 3) 61 ≡ pasted m o (encode (a ∷ []))
 unfolding encode
 text-one m o a p q h ep eq = rw (← ep, ← eq) (store-four m o p q 61 61 h)
 
+-- four stores that are the text of two bytes
 pub text-two : (m : List ℕ) (o a b p q r : ℕ) → o + 4 ≤ length m → p ≡ char (a / 4) → q ≡ char (a % 4 * 16 + b / 16) → r ≡ char (b % 16 * 4) → set (set (set (set m o p) (o + 1) q) (o + 2) r) (o + 3) 61 ≡ pasted m o (encode (a ∷ b ∷ []))
 unfolding encode
 text-two m o a b p q r h ep eq er = rw (← ep, ← eq, ← er) (store-four m o p q r 61 h)

@@ -9,7 +9,7 @@ use lib.ListN.{length, getD, take}
 use lib.Dec.{eqb}
 use Rattle.laws.specs.Choice.{pick}
 use Rattle.laws.specs.Bytes.{pasted}
-use Rattle.base64.specs.Base64.{char, value, pad, encode, full, three, final, decode}
+use Rattle.base64.specs.Base64.{char, value, encode, full, three, final, decode}
 use Rattle.base64.specs.declared.Decoded.{Decoded}
 use Rattle.base64.specs.declared.Decoded.the-variants.{Bytes, Bad}
 
@@ -52,10 +52,11 @@ unfoldable pub tab : (ℕ → ℕ) → ℕ → ℕ → List ℕ
 tab f i zero = []
 tab f i (suc n) = f i ∷ tab f (suc i) n
 
--- the number that each byte stands for, and the character of each number below 64
+-- a list is the table of the numbers that bytes stand for
 abbrev pub Values : List ℕ → Type 0
 Values s = s ≡ tab value 0 256
 
+-- a list is the table of the characters of the numbers below 64
 abbrev pub Chars : List ℕ → Type 0
 Chars s = s ≡ tab char 0 64
 
@@ -116,9 +117,10 @@ fourAt x i = four (getD x i 0) (getD x (i + 1) 0) (getD x (i + 2) 0)
 abbrev pub headText : List ℕ → ℕ → List ℕ
 headText x n = encode (take (3 * n) x)
 
--- the text of a last byte, and of the last two
+-- the text of a last byte
 abbrev pub textOfOne : ℕ → List ℕ
 textOfOne a = encode (a ∷ [])
 
+-- the text of the last two bytes
 abbrev pub textOfTwo : ℕ → ℕ → List ℕ
 textOfTwo a b = encode (a ∷ b ∷ [])

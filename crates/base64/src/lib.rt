@@ -1,8 +1,7 @@
 // Base64 between a text and a lent buffer, in one pass each way: a table is taken once a call and lent to a leaf that does one group.
 ghost use mathlib.Core.Path.{_≡_};
-ghost use Prim.Native.Nat.{_+_, _*_, _/_, _%_, _<_, _≤_};
-ghost use mathlib.Core.List.{List, _∷_, []};
-ghost use lib.ListN.{length, getD, take};
+ghost use Prim.Native.Nat.{_+_, _*_, _/_, _<_, _≤_};
+ghost use lib.ListN.{length, getD};
 ghost use Rattle.laws.specs.Bytes.{pasted};
 ghost use Rattle.base64.specs.Base64.{char, value};
 ghost use Rattle.base64.specs.Contract.{Decodes, Encodes, Values, Chars, Group, Groups, Last, finalAt, fourAt, headText, textOfOne, textOfTwo};

@@ -42,10 +42,28 @@ rest-all m at = take-all (length m - at) (drop at m) (simp length-drop (omega ar
 pub rest-none : (m : List ℕ) (at : ℕ) → drop (length m - at) (drop at m) ≡ []
 rest-none m at = drop-of-length-le (drop at m) {i = length m - at} (simp length-drop (omega arith))
 
--- a copy to the start of the part from `at` on, seen in the whole
-pub copied-part : (m : List ℕ) (at : ℕ) (x ys : List ℕ) → ys ≡ take (length x) x ++ drop (length x) (take (length m - at) (drop at m)) → take at m ++ (ys ++ drop (length m - at) (drop at m)) ≡ pasted m at x
-unfolding pasted
-copied-part m at x ys e = rw (e, rest-none m at, rest-all m at, append-nil, take-length x, drop-drop (length x) at m)
+-- what is written to the start of the part from `at` on, seen in the whole
+pub part-pasted : (m : List ℕ) (at : ℕ) (x ys : List ℕ)
+    → ys ≡ pasted (take (length m - at) (drop at m)) 0 x
+    → take at m ++ (ys ++ drop (length m - at) (drop at m)) ≡ pasted m at x
+part-pasted m at x ys e =
+    rw (
+      e,
+      pasted-start (take (length m - at) (drop at m)) x,
+      rest-none m at,
+      rest-all m at,
+      append-nil,
+      drop-drop (length x) at m,
+      pasted-is m at x,
+    )
+
+-- so is a copy to its start
+pub copied-part : (m : List ℕ) (at : ℕ) (x ys : List ℕ)
+    → ys ≡ take (length x) x ++ drop (length x) (take (length m - at) (drop at m))
+    → take at m ++ (ys ++ drop (length m - at) (drop at m)) ≡ pasted m at x
+copied-part m at x ys e =
+    let d = take (length m - at) (drop at m) in
+    part-pasted m at x ys (e ∙ ap (λ (l : List ℕ). l ++ drop (length x) d) (take-length x) ∙ sym (pasted-start d x))
 
 -- a list in front of another, cut where it ends or later
 pub take-past : (p q : List ℕ) (n : ℕ) → length p ≤ n → take n (p ++ q) ≡ p ++ take (n - length p) q

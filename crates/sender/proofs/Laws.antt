@@ -1,4 +1,4 @@
--- A frame's raw bytes in three parts, and the parts at each way of their tests.
+-- A frame's raw bytes in three parts, its line in three parts, and the sender's definition at each way of its tests.
 -- Assumes nothing.
 use mathlib.Core.Path.{_≡_, refl, sym, ap, ap₂, _∙_}
 use mathlib.Core.List.{List, [], _∷_, _++_, append-nil, append-assoc}
@@ -6,16 +6,21 @@ use Prim.Native.Nat.{ℕ, zero, suc, _+_, _-_, _≤_, _<_}
 use native.Mathlib.Nat.{zero-add, suc-ne-zero}
 use native.Mathlib.Decide.{ℕ-discrete}
 use native.Mathlib.Omega.{arith}
-use lib.ListN.{length, take, drop, length-append, length-take, length-drop}
+use mathlib.Core.Bool.{true, false}
+use lib.Dec.{eqb}
+use lib.ListN.{length, take, drop, set, length-append, length-take, length-drop}
 use lib.Seq.{take-all, drop-append-le, take-append-le}
-use borrow.Author.Tests.{eq-eqb, ne-eqb}
+use borrow.Author.Tests.{eq-eqb, ne-eqb, le-leb, lt-leb, le-ltb, lt-ltb}
 use Rattle.laws.specs.Bytes.{pasted, be16}
-use Rattle.laws.proofs.Choice.{pick-yes, pick-no}
-use Rattle.laws.proofs.Lists.{take-past, drop-past, pasted-twice}
+use Rattle.laws.proofs.Choice.{pick-yes, pick-no, pick-case, both-yes, both-no, both-last-no}
+use Rattle.laws.proofs.Lists.{take-past, drop-past, pasted-twice, pasted-length, set-pasted}
 use Rattle.crc.specs.Crc.{crcOf}
-use Rattle.frame.specs.Sender.{frameCount, rawOf, startOf, stopOf, pieceOf}
+use Rattle.base64.specs.Base64.{encode}
+use Rattle.base64.proofs.Laws.{encode-length}
+use Rattle.frame.specs.Line.{initial, partial, frame}
+use Rattle.frame.specs.Sender.{frameCount, rawOf, startOf, stopOf, pieceOf, frameOf, sendable, frameIs, refused, sendFrame}
 use Rattle.frame.proofs.Count.{stop-last, stop-other, start-is, start-first, piece-size}
-use Rattle.sender.specs.Piece.{headOf, fromOf, toOf, middleOf, tailOf}
+use Rattle.sender.specs.Piece.{headOf, fromOf, toOf, middleOf, tailOf, markerOf}
 
 -- the three parts at each way of their tests
 pub head-first : (b k : ℕ) → k ≡ 0 → headOf b k ≡ be16 (b + 2)
@@ -162,3 +167,68 @@ parts-pasted s k m m₁ m₂ m₃ at after room e₁ p₁ e₂ p₂ p₃ =
     ∙ ap₂ (λ (l : List ℕ) (n : ℕ). pasted l n t) two both
     ∙ pasted-twice m 0 (h ++ x) t (rw length-append (omega arith))
     ∙ ap (λ (l : List ℕ). pasted m 0 l) (append-assoc h x t ∙ sym (piece-parts s k))
+
+-- a frame's marker, by its number
+pub marker-first : (k : ℕ) → k ≡ 0 → markerOf k ≡ initial
+marker-first k h = simp (eq-eqb _ _ h, pick-yes)
+
+pub marker-later : (k : ℕ) → (k ≡ 0 → ⊥) → markerOf k ≡ partial
+marker-later k h = simp (ne-eqb _ _ h, pick-no)
+
+pub marker-length : (k : ℕ) → length (markerOf k) ≡ 2
+marker-length k = pick-case (λ (m : List ℕ). length m ≡ 2) (eqb k 0) initial partial (λ e. refl) (λ e. refl)
+
+-- marker, text and 0A one after the other are the frame's line
+pub line-parts : (k : ℕ) (raw m m₁ m₂ : List ℕ) (n : ℕ) → length (encode raw) + 3 ≤ length m → m₁ ≡ pasted m 0 (markerOf k)
+    → n ≡ length (encode raw)
+    → m₂ ≡ pasted m₁ 2 (encode raw)
+    → (2 + n + 1 ≡ length (frame (markerOf k) raw)) × (set m₂ (2 + n) 0x0A ≡ pasted m 0 (frame (markerOf k) raw)) × (length m₂ ≡ length m)
+unfolding frame
+line-parts k raw m m₁ m₂ n room p₁ e p₂ =
+    let a = markerOf k in
+    let t = encode raw in
+    let two : length a ≡ 2 = marker-length k in
+    let ahead : length (a ++ t) ≡ 2 + n = rw (length-append a t) (omega arith) in
+    let both : m₂ ≡ pasted m 0 (a ++ t) = p₂ ∙ ap₂ (λ (l : List ℕ) (i : ℕ). pasted l i t) p₁ (omega arith) ∙ pasted-twice m 0 a t (omega arith) in
+    let size : length m₂ ≡ length m = ap length both ∙ pasted-length m 0 (a ++ t) (omega arith) in (
+      rw (length-append a (t ++ (0x0A ∷ [])), length-append t (0x0A ∷ [])) (omega arith),
+      set-pasted m₂ (2 + n) 0x0A (omega arith)
+          ∙ ap₂ (λ (l : List ℕ) (i : ℕ). pasted l i (0x0A ∷ [])) both (omega arith)
+          ∙ pasted-twice m 0 (a ++ t) (0x0A ∷ []) (omega arith)
+          ∙ ap (λ (l : List ℕ). pasted m 0 l) (append-assoc a t (0x0A ∷ [])),
+      size,
+    )
+
+-- the text of 93 raw bytes has 124 characters
+pub text-room : (raw : List ℕ) → length raw ≤ 93 → length (encode raw) ≤ 124
+text-room raw h = omega (arith, encode-length raw)
+
+-- the sender's refusals, and a frame that it sends
+pub send-unsendable : (s : List ℕ) (k : ℕ) (out : List ℕ) → sendable (length s) (length out) ≡ false → sendFrame s k out ≡ record { says = refused 12; buffer = out }
+unfolding sendFrame
+send-unsendable s k out h = simp (h, pick-yes)
+
+pub sendable-small : (b room : ℕ) → room < 127 → sendable b room ≡ false
+unfolding sendable
+sendable-small b room h = simp (lt-leb _ _ h, both-no)
+
+pub sendable-short : (b room : ℕ) → b < 8 → sendable b room ≡ false
+unfolding sendable
+sendable-short b room h = simp (lt-leb _ _ h, both-no, both-last-no)
+
+pub sendable-long : (b room : ℕ) → 65533 < b → sendable b room ≡ false
+unfolding sendable
+sendable-long b room h = simp (lt-leb _ _ h, both-last-no)
+
+pub sendable-is : (b room : ℕ) → 127 ≤ room → 8 ≤ b → b ≤ 65533 → sendable b room ≡ true
+unfolding sendable
+sendable-is b room h k l = simp (le-leb _ _ h, le-leb _ _ k, le-leb _ _ l, both-yes)
+
+pub send-beyond : (s : List ℕ) (k : ℕ) (out : List ℕ) → sendable (length s) (length out) ≡ true → frameCount (length s) ≤ k → sendFrame s k out ≡ record { says = refused 13; buffer = out }
+unfolding sendFrame
+send-beyond s k out h l = simp (h, pick-no, le-ltb _ _ l, pick-yes)
+
+pub send-frame : (s : List ℕ) (k : ℕ) (out : List ℕ) → sendable (length s) (length out) ≡ true → k < frameCount (length s)
+    → sendFrame s k out ≡ record { says = frameIs (length (frameOf s k)) (frameCount (length s)); buffer = pasted out 0 (frameOf s k) }
+unfolding sendFrame
+send-frame s k out h l = simp (h, pick-no, lt-ltb _ _ l, pick-no)

@@ -7,6 +7,7 @@ use lib.ListN.{length, take, drop}
 use Rattle.laws.specs.Choice.{pick}
 use Rattle.laws.specs.Bytes.{be16}
 use Rattle.crc.specs.Crc.{crcOf}
+use Rattle.frame.specs.Line.{initial, partial}
 use Rattle.frame.specs.Sender.{frameCount, startOf, stopOf}
 
 -- total, in frame 0
@@ -27,3 +28,7 @@ middleOf s k = take (toOf (length s) k - fromOf (length s) k) (drop (fromOf (len
 -- the CRC, in the last frame
 unfoldable pub tailOf : List ℕ → ℕ → List ℕ
 tailOf s k = pick (eqb (k + 1) (frameCount (length s))) (be16 (crcOf s)) []
+
+-- frame k's marker
+abbrev pub markerOf : ℕ → List ℕ
+markerOf k = pick (eqb k 0) initial partial

@@ -7,7 +7,9 @@ ghost use Prim.Native.Nat.{ℕ, _+_, _-_, _≤_, _<_};
 ghost use lib.ListN.{length};
 ghost use Rattle.laws.specs.Bytes.{pasted};
 ghost use Rattle.frame.specs.Sender.{frameCount, startOf, stopOf, pieceOf, frameOf, outcome, sendFrame};
-ghost use Rattle.sender.specs.Piece.{headOf, toOf, fromOf, middleOf, tailOf};
+ghost use Rattle.base64.specs.Base64.{encode};
+ghost use Rattle.frame.specs.Line.{frame};
+ghost use Rattle.sender.specs.Piece.{headOf, toOf, fromOf, middleOf, tailOf, markerOf};
 
 // A body of this many bytes or more takes more than one frame.
 const ONE_FRAME_LIMIT: usize = 89;
@@ -107,4 +109,70 @@ fn put_piece(body: &[u8], k: usize, count: usize, raw: &mut [u8]) -> usize
     let at = put_head(body.len(), k, raw);
     let after = put_middle(body, k, count, raw, at);
     put_tail(body, k, count, raw, after)
+}
+
+// A frame's marker goes to the first two bytes of out: initial for frame 0, else partial.
+fn put_marker(k: usize, out: &mut [u8])
+    requires { ⌜ 2 ≤ length (now out) ⌝ }
+    ensures { λ _. ⌜ now (out .exit) ≡ pasted (now (out .entry)) 0 (markerOf k) ⌝ }
+{
+    if k == 0 {
+        out[0] = 0x06;
+        out[1] = 0x09;
+        return;
+    }
+    out[0] = 0x04;
+    out[1] = 0x14;
+}
+
+// The text of some raw bytes goes to out from its third byte on; gives how many characters it has.
+fn put_text(raw: &[u8], out: &mut [u8]) -> usize
+    requires { ⌜ (length (now raw) ≤ 93) × (127 ≤ length (now out)) ⌝ }
+    ensures { λ r. ⌜ (r ≡ length (encode (now (raw .entry)))) × (now (out .exit) ≡ pasted (now (out .entry)) 2 (encode (now (raw .entry)))) × (r ≤ 124) ⌝ }
+{
+    base64::encode(raw, &mut out[2..])
+}
+
+// Frame k's line with these raw bytes goes to the start of out; gives its length.
+fn put_line(k: usize, raw: &[u8], out: &mut [u8]) -> usize
+    requires { ⌜ (length (now raw) ≤ 93) × (127 ≤ length (now out)) ⌝ }
+    ensures { λ r. ⌜ (r ≡ length (frame (markerOf k) (now (raw .entry)))) × (now (out .exit) ≡ pasted (now (out .entry)) 0 (frame (markerOf k) (now (raw .entry)))) ⌝ }
+{
+    put_marker(k, out);
+    let n = put_text(raw, out);
+    let end = 2 + n;
+    out[end] = 0x0A;
+    end + 1
+}
+
+// The line of frame k of a body that takes `count` frames goes to the start of out; gives its length.
+fn write_frame(body: &[u8], k: usize, count: usize, out: &mut [u8]) -> usize
+    requires { ⌜ (8 ≤ length (now body)) × (length (now body) ≤ 65533) × (count ≡ frameCount (length (now body))) × (k < count) × (count ≤ 705) × (127 ≤ length (now out)) ⌝ }
+    ensures { λ r. ⌜ (r ≡ length (frameOf (now (body .entry)) k)) × (now (out .exit) ≡ pasted (now (out .entry)) 0 (frameOf (now (body .entry)) k)) ⌝ }
+{
+    let mut raw = [0u8; 93];
+    let n = put_piece(body, k, count, &mut raw);
+    put_line(k, &raw[..n], out)
+}
+
+// Writes frame number k of a body, as a line, to the start of out: its length and the frame count, or a refusal that writes nothing.
+pub fn send_frame(body: &[u8], k: usize, out: &mut [u8]) -> Sent
+    ensures { λ r. ⌜ outcome r (now (out .exit)) ≡ sendFrame (now (body .entry)) k (now (out .entry)) ⌝ }
+{
+    let b = body.len();
+    if out.len() < 127 {
+        return Sent::Refused(Refusal::Unsendable);
+    }
+    if b < 8 {
+        return Sent::Refused(Refusal::Unsendable);
+    }
+    if 65533 < b {
+        return Sent::Refused(Refusal::Unsendable);
+    }
+    let count = frame_count(b);
+    if count <= k {
+        return Sent::Refused(Refusal::NoSuchFrame);
+    }
+    let length = write_frame(body, k, count, out);
+    Sent::Frame { length, count }
 }

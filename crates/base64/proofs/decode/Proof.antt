@@ -7,17 +7,16 @@ use Rattle.base64.proofs.Runs.{decodes-uneven, decodes-empty, decodes-b
 use borrow.Author.Needs.{needs}
 use Rattle.base64.proofs.decode.Statement.{statement}
 use Rattle.base64.proofs.decode.Tie as tie
-use Rattle.base64.proofs.decode.Reads as reads
-use Rattle.base64.proofs.decode.Lts as lts
-use Rattle.base64.proofs.groups.Reads as groups-reads
-use Rattle.base64.proofs.last.Reads as last-reads
-use Rattle.base64.proofs.values.Reads as values-reads
 
 returns : tie.Need-returns
-returns c = decodes-uneven (c .before .before .before .args .text .now) (c .before .before .before .args .out .now) (c .if1 .taken)
+returns c =
+    let a = c .before .before .before .args in
+    decodes-uneven (a .text .now) (a .out .now) (c .if1 .taken)
 
 returns-2 : tie.Need-returns-2
-returns-2 c = decodes-empty (c .before .before .before .before .args .text .now) (c .before .before .before .before .args .out .now) (c .if2 .taken)
+returns-2 c =
+    let a = c .before .before .before .before .args in
+    decodes-empty (a .text .now) (a .out .now) (c .if2 .taken)
 
 values-requires : tie.Need-values-requires
 values-requires c κs = search needs
@@ -32,7 +31,10 @@ same-length : tie.Need-same-length
 same-length c = search needs
 
 returns-3 : tie.Need-returns-3
-returns-3 c = decodes-broken (c .before .before .before .before .before .before .before .before .before .before .before .args .text .now) (c .before .before .before .before .before .before .before .before .before .before .before .args .out .now) (c .before .before .before .groups .last .1 .1 .1 .0) (length (c .before .before .before .before .before .before .before .before .before .before .before .args .text .now) / 4 - 1) (c .before .before .before .groups .result) (omega arith) (c .before .before .before .groups .ensures) (c .if3 .taken)
+returns-3 c =
+    let a = c .before .before .before .before .before .before .before .before .before .before .before .args in
+    let many = c .before .before .before .groups in
+    decodes-broken (a .text .now) (a .out .now) (many .last .1 .1 .1 .0) (length (a .text .now) / 4 - 1) (many .result) (omega arith) (many .ensures) (c .if3 .taken)
 
 mul-last : tie.Need-mul-last
 mul-last c = search needs
@@ -47,7 +49,11 @@ same-length-2 : tie.Need-same-length-2
 same-length-2 c = search needs
 
 returns-4 : tie.Need-returns-4
-returns-4 c = decodes-bad (c .before .before .before .before .before .before .before .before .before .before .before .before .before .before .before .before .before .args .text .now) (c .before .before .before .before .before .before .before .before .before .before .before .before .before .before .before .before .before .args .out .now) (c .before .before .before .before .before .before .before .before .before .groups .last .1 .1 .1 .0) (c .before .before .before .last .last .1 .1 .1 .0) (length (c .before .before .before .before .before .before .before .before .before .before .before .before .before .before .before .before .before .args .text .now) / 4 - 1) (c .before .before .before .before .before .before .before .before .before .groups .result) (c .before .before .before .last .result) (omega arith) (omega arith) (c .before .before .before .before .before .before .before .before .before .groups .ensures) (c .before .before .before .before .before .before .if3 .left) (c .before .before .before .last .ensures) (c .if4 .taken)
+returns-4 c =
+    let a = c .before .before .before .before .before .before .before .before .before .before .before .before .before .before .before .before .before .args in
+    let many = c .before .before .before .before .before .before .before .before .before .groups in
+    let end = c .before .before .before .last in
+    decodes-bad (a .text .now) (a .out .now) (many .last .1 .1 .1 .0) (end .last .1 .1 .1 .0) (length (a .text .now) / 4 - 1) (many .result) (end .result) (omega arith) (omega arith) (many .ensures) (c .before .before .before .before .before .before .if3 .left) (end .ensures) (c .if4 .taken)
 
 mul-t17 : tie.Need-mul-t17
 mul-t17 c = search needs
@@ -59,7 +65,11 @@ same-length-3 : tie.Need-same-length-3
 same-length-3 c = search needs
 
 returns-5 : tie.Need-returns-5
-returns-5 c = decodes-good (c .before .before .before .before .before .before .before .before .before .before .before .before .before .before .before .before .before .args .text .now) (c .before .before .before .before .before .before .before .before .before .before .before .before .before .before .before .before .before .args .out .now) (c .before .before .before .before .before .before .before .before .before .groups .last .1 .1 .1 .0) (c .before .before .before .last .last .1 .1 .1 .0) (length (c .before .before .before .before .before .before .before .before .before .before .before .before .before .before .before .before .before .args .text .now) / 4 - 1) (c .before .before .before .before .before .before .before .before .before .groups .result) (c .before .before .before .last .result) (omega arith) (omega arith) (c .before .before .before .before .before .before .before .before .before .groups .ensures) (c .before .before .before .before .before .before .if3 .left) (c .before .before .before .last .ensures) (c .if4 .left)
+returns-5 c =
+    let a = c .before .before .before .before .before .before .before .before .before .before .before .before .before .before .before .before .before .args in
+    let many = c .before .before .before .before .before .before .before .before .before .groups in
+    let end = c .before .before .before .last in
+    decodes-good (a .text .now) (a .out .now) (many .last .1 .1 .1 .0) (end .last .1 .1 .1 .0) (length (a .text .now) / 4 - 1) (many .result) (end .result) (omega arith) (omega arith) (many .ensures) (c .before .before .before .before .before .before .if3 .left) (end .ensures) (c .if4 .left)
 
 pub decode-spec : {M : Type 1} → statement M
 decode-spec =

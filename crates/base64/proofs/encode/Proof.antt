@@ -7,12 +7,6 @@ use Rattle.base64.proofs.Texts.{encodes-whole, encodes-one, encodes-two
 use borrow.Author.Needs.{needs}
 use Rattle.base64.proofs.encode.Statement.{statement}
 use Rattle.base64.proofs.encode.Tie as tie
-use Rattle.base64.proofs.encode.Reads as reads
-use Rattle.base64.proofs.encode.Lts as lts
-use Rattle.base64.proofs.chars.Reads as chars-reads
-use Rattle.base64.proofs.encode_groups.Reads as encode-groups-reads
-use Rattle.base64.proofs.encode_one.Reads as encode-one-reads
-use Rattle.base64.proofs.encode_two.Reads as encode-two-reads
 
 chars-requires : tie.Need-chars-requires
 chars-requires c κs = search needs
@@ -27,7 +21,10 @@ same-length : tie.Need-same-length
 same-length c = search needs
 
 returns : tie.Need-returns
-returns c = encodes-whole (c .before .before .before .before .before .before .before .before .before .args .raw .now) (c .before .before .before .before .before .before .before .before .before .args .out .now) (c .before .before .before .encode-groups .last .1 .1 .1 .0) (length (c .before .before .before .before .before .before .before .before .before .args .raw .now) / 3) (omega arith) (c .before .before .before .encode-groups .ensures)
+returns c =
+    let a = c .before .before .before .before .before .before .before .before .before .args in
+    let many = c .before .before .before .encode-groups in
+    encodes-whole (a .raw .now) (a .out .now) (many .last .1 .1 .1 .0) (length (a .raw .now) / 3) (omega arith) (many .ensures)
 
 mul-encode-one : tie.Need-mul-encode-one
 mul-encode-one c = search needs
@@ -52,7 +49,10 @@ same-length-2 c = search needs
 
 returns-2 : tie.Need-returns-2
 returns-2 c =
-    encodes-one (c .before .before .before .before .before .before .before .before .before .before .before .before .before .before .before .before .args .raw .now) (c .before .before .before .before .before .before .before .before .before .before .before .before .before .before .before .before .args .out .now) (c .before .before .before .before .before .before .before .before .before .before .encode-groups .last .1 .1 .1 .0) (c .before .before .encode-one .last .1 .1 .0) (length (c .before .before .before .before .before .before .before .before .before .before .before .before .before .before .before .before .args .raw .now) / 3) (omega arith) (omega arith) (c .before .before .before .before .before .before .before .before .before .before .encode-groups .ensures) (c .before .before .encode-one .ensures)
+    let a = c .before .before .before .before .before .before .before .before .before .before .before .before .before .before .before .before .args in
+    let many = c .before .before .before .before .before .before .before .before .before .before .encode-groups in
+    let end = c .before .before .encode-one in
+    encodes-one (a .raw .now) (a .out .now) (many .last .1 .1 .1 .0) (end .last .1 .1 .0) (length (a .raw .now) / 3) (omega arith) (omega arith) (many .ensures) (end .ensures)
 
 mul-encode-two : tie.Need-mul-encode-two
 mul-encode-two c = search needs
@@ -86,7 +86,10 @@ same-length-3 c = search needs
 
 returns-3 : tie.Need-returns-3
 returns-3 c =
-    encodes-two (c .before .before .before .before .before .before .before .before .before .before .before .before .before .before .before .before .before .args .raw .now) (c .before .before .before .before .before .before .before .before .before .before .before .before .before .before .before .before .before .args .out .now) (c .before .before .before .before .before .before .before .before .before .before .before .encode-groups .last .1 .1 .1 .0) (c .before .before .encode-two .last .1 .1 .1 .0) (length (c .before .before .before .before .before .before .before .before .before .before .before .before .before .before .before .before .before .args .raw .now) / 3) (omega arith) (omega arith) (c .before .before .before .before .before .before .before .before .before .before .before .encode-groups .ensures) (c .before .before .encode-two .ensures)
+    let a = c .before .before .before .before .before .before .before .before .before .before .before .before .before .before .before .before .before .args in
+    let many = c .before .before .before .before .before .before .before .before .before .before .before .encode-groups in
+    let end = c .before .before .encode-two in
+    encodes-two (a .raw .now) (a .out .now) (many .last .1 .1 .1 .0) (end .last .1 .1 .1 .0) (length (a .raw .now) / 3) (omega arith) (omega arith) (many .ensures) (end .ensures)
 
 pub encode-spec : {M : Type 1} → statement M
 encode-spec =

@@ -7,9 +7,6 @@ use Rattle.base64.proofs.Texts.{text-three}
 use borrow.Author.Needs.{needs}
 use Rattle.base64.proofs.encode_group.Statement.{statement}
 use Rattle.base64.proofs.encode_group.Tie as tie
-use Rattle.base64.proofs.encode_group.Reads as reads
-use Rattle.base64.proofs.encode_group.Lts as lts
-use Rattle.base64.proofs.letter.Reads as letter-reads
 
 shared-slice-read-a : tie.Need-shared-slice-read-a
 shared-slice-read-a c = search needs
@@ -33,19 +30,31 @@ mul-letter : tie.Need-mul-letter
 mul-letter c = search needs
 
 add-letter : tie.Need-add-letter
-add-letter c = omega (arith, c .before .before .before .before .before .shared-slice-known .given (c .before .before .before .before .before .before .args .i), c .before .before .before .before .before .shared-slice-known .given (c .before .before .before .before .before .before .args .i + 1))
+add-letter c =
+    let a = c .before .before .before .before .before .before .args in
+    let known = c .before .before .before .before .before .shared-slice-known in
+    omega (arith, known .given (a .i), known .given (a .i + 1))
 
 letter-requires-2 : tie.Need-letter-requires-2
-letter-requires-2 c κs = (c .before .before .before .before .before .before .pre .0, omega (arith, c .before .before .before .before .before .shared-slice-known .given (c .before .before .before .before .before .before .args .i), c .before .before .before .before .before .shared-slice-known .given (c .before .before .before .before .before .before .args .i + 1)))
+letter-requires-2 c κs =
+    let a = c .before .before .before .before .before .before .args in
+    let known = c .before .before .before .before .before .shared-slice-known in
+    (c .before .before .before .before .before .before .pre .0, omega (arith, known .given (a .i), known .given (a .i + 1)))
 
 mul-letter-2 : tie.Need-mul-letter-2
 mul-letter-2 c = search needs
 
 add-letter-2 : tie.Need-add-letter-2
-add-letter-2 c = omega (arith, c .before .before .before .before .before .before .shared-slice-known .given (c .before .before .before .before .before .before .before .args .i + 1), c .before .before .before .before .before .before .shared-slice-known .given (c .before .before .before .before .before .before .before .args .i + 2))
+add-letter-2 c =
+    let a = c .before .before .before .before .before .before .before .args in
+    let known = c .before .before .before .before .before .before .shared-slice-known in
+    omega (arith, known .given (a .i + 1), known .given (a .i + 2))
 
 letter-requires-3 : tie.Need-letter-requires-3
-letter-requires-3 c κs = (c .before .before .before .before .before .before .before .pre .0, omega (arith, c .before .before .before .before .before .before .shared-slice-known .given (c .before .before .before .before .before .before .before .args .i + 1), c .before .before .before .before .before .before .shared-slice-known .given (c .before .before .before .before .before .before .before .args .i + 2)))
+letter-requires-3 c κs =
+    let a = c .before .before .before .before .before .before .before .args in
+    let known = c .before .before .before .before .before .before .shared-slice-known in
+    (c .before .before .before .before .before .before .before .pre .0, omega (arith, known .given (a .i + 1), known .given (a .i + 2)))
 
 letter-requires-4 : tie.Need-letter-requires-4
 letter-requires-4 c κs = search needs
@@ -76,8 +85,12 @@ same-length c = simp length-set
 
 returns : tie.Need-returns
 returns c =
-    text-three (c .before .before .before .before .before .before .before .before .before .args .out .now) (c .before .before .before .before .before .before .before .before .before .args .o) (getD (c .before .before .before .before .before .before .before .before .before .args .raw .now) (c .before .before .before .before .before .before .before .before .before .args .i) 0) (getD (c .before .before .before .before .before .before .before .before .before .args .raw .now) (c .before .before .before .before .before .before .before .before .before .args .i + 1) 0) (getD (c .before .before .before .before .before .before .before .before .before .args .raw .now) (c .before .before .before .before .before .before .before .before .before .args .i + 2) 0) (c .before .before .before .letter .result) (c .before .before .letter2 .result) (c .before .letter3 .result) (c .letter4 .result) (c .before .before .before .before .before .before .before .before .before .pre .1 .1)
-    (c .before .before .before .letter .ensures) (c .before .before .letter2 .ensures) (c .before .letter3 .ensures) (c .letter4 .ensures)
+    let a = c .before .before .before .before .before .before .before .before .before .args in
+    let l1 = c .before .before .before .letter in
+    let l2 = c .before .before .letter2 in
+    let l3 = c .before .letter3 in
+    text-three (a .out .now) (a .o) (getD (a .raw .now) (a .i) 0) (getD (a .raw .now) (a .i + 1) 0) (getD (a .raw .now) (a .i + 2) 0) (l1 .result) (l2 .result) (l3 .result) (c .letter4 .result) (c .before .before .before .before .before .before .before .before .before .pre .1 .1)
+    (l1 .ensures) (l2 .ensures) (l3 .ensures) (c .letter4 .ensures)
 
 pub encode-group-spec : {M : Type 1} → statement M
 encode-group-spec =

@@ -11,9 +11,6 @@ use Rattle.base64.specs.Contract.{headText}
 use Rattle.base64.proofs.Texts.{encode-next}
 use Rattle.base64.proofs.encode_groups.Statement.{statement}
 use Rattle.base64.proofs.encode_groups.Tie as tie
-use Rattle.base64.proofs.encode_groups.Reads as reads
-use Rattle.base64.proofs.encode_groups.Lts as lts
-use Rattle.base64.proofs.encode_group.Reads as encode-group-reads
 
 abbrev Inv-loop : tie.InvT-loop
 Inv-loop table raw n out₀ g₀ out g = (g ≤ n) × (out ≡ pasted out₀ 0 (headText raw g)) × (length out ≡ length out₀)
@@ -41,19 +38,23 @@ loop-less : tie.Need-loop-less Inv-loop μ-loop
 loop-less c = omega arith
 
 loop-again : tie.Need-loop-again Inv-loop μ-loop
-loop-again c = (
-  omega arith,
-  encode-next (c .before .before .before .before .before .before .before .before .args .raw .now) (c .before .before .before .before .before .before .before .before .args .out .now) (c .before .before .before .before .before .loop .out) (c .before .before .encode-group .last .1 .1 .1 .0) (c .before .before .before .before .before .loop .g) (omega arith) (omega arith) (c .before .before .before .before .before .loop .inv .1) (c .before .before .encode-group .ensures),
-  c .before .before .encode-group .kept .1 .1 .1 .0 ∙ c .before .before .before .before .before .loop .inv .2,
-)
+loop-again c =
+    let a = c .before .before .before .before .before .before .before .before .args in
+    let at = c .before .before .before .before .before .loop in
+    let one = c .before .before .encode-group in (
+      omega arith,
+      encode-next (a .raw .now) (a .out .now) (at .out) (one .last .1 .1 .1 .0) (at .g) (omega arith) (omega arith) (at .inv .1) (one .ensures),
+      one .kept .1 .1 .1 .0 ∙ at .inv .2,
+    )
 
 same-length : tie.Need-same-length Inv-loop μ-loop
 same-length c = c .before .loop .inv .2
 
 returns : tie.Need-returns Inv-loop μ-loop
 returns c =
-    let same : c .before .loop .g ≡ c .before .before .before .before .args .n = omega arith in
-    rw (← same) (c .before .loop .inv .1)
+    let at = c .before .loop in
+    let same : at .g ≡ c .before .before .before .before .args .n = omega arith in
+    rw (← same) (at .inv .1)
 
 pub encode-groups-spec : {M : Type 1} → statement M
 encode-groups-spec =

@@ -6,9 +6,6 @@ use Rattle.base64.proofs.Texts.{text-one}
 use borrow.Author.Needs.{needs}
 use Rattle.base64.proofs.encode_one.Statement.{statement}
 use Rattle.base64.proofs.encode_one.Tie as tie
-use Rattle.base64.proofs.encode_one.Reads as reads
-use Rattle.base64.proofs.encode_one.Lts as lts
-use Rattle.base64.proofs.letter.Reads as letter-reads
 
 letter-requires : tie.Need-letter-requires
 letter-requires c κs = search needs
@@ -44,7 +41,10 @@ same-length : tie.Need-same-length
 same-length c = simp length-set
 
 returns : tie.Need-returns
-returns c = text-one (c .before .before .before .args .out .now) (c .before .before .before .args .o) (c .before .before .before .args .a) (c .before .letter .result) (c .letter2 .result) (c .before .before .before .pre .1) (c .before .letter .ensures) (c .letter2 .ensures)
+returns c =
+    let a = c .before .before .before .args in
+    let l1 = c .before .letter in
+    text-one (a .out .now) (a .o) (a .a) (l1 .result) (c .letter2 .result) (c .before .before .before .pre .1) (l1 .ensures) (c .letter2 .ensures)
 
 pub encode-one-spec : {M : Type 1} → statement M
 encode-one-spec =

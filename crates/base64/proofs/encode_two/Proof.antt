@@ -6,9 +6,6 @@ use Rattle.base64.proofs.Texts.{text-two}
 use borrow.Author.Needs.{needs}
 use Rattle.base64.proofs.encode_two.Statement.{statement}
 use Rattle.base64.proofs.encode_two.Tie as tie
-use Rattle.base64.proofs.encode_two.Reads as reads
-use Rattle.base64.proofs.encode_two.Lts as lts
-use Rattle.base64.proofs.letter.Reads as letter-reads
 
 letter-requires : tie.Need-letter-requires
 letter-requires c κs = search needs
@@ -53,7 +50,11 @@ same-length : tie.Need-same-length
 same-length c = simp length-set
 
 returns : tie.Need-returns
-returns c = text-two (c .before .before .before .before .args .out .now) (c .before .before .before .before .args .o) (c .before .before .before .before .args .a) (c .before .before .before .before .args .b) (c .before .before .letter .result) (c .before .letter2 .result) (c .letter3 .result) (c .before .before .before .before .pre .1) (c .before .before .letter .ensures) (c .before .letter2 .ensures) (c .letter3 .ensures)
+returns c =
+    let a = c .before .before .before .before .args in
+    let l1 = c .before .before .letter in
+    let l2 = c .before .letter2 in
+    text-two (a .out .now) (a .o) (a .a) (a .b) (l1 .result) (l2 .result) (c .letter3 .result) (c .before .before .before .before .pre .1) (l1 .ensures) (l2 .ensures) (c .letter3 .ensures)
 
 pub encode-two-spec : {M : Type 1} → statement M
 encode-two-spec =

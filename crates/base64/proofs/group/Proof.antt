@@ -7,9 +7,6 @@ use Rattle.base64.proofs.Steps.{or-all, group-good, group-bad}
 use borrow.Author.Needs.{needs}
 use Rattle.base64.proofs.group.Statement.{statement}
 use Rattle.base64.proofs.group.Tie as tie
-use Rattle.base64.proofs.group.Reads as reads
-use Rattle.base64.proofs.group.Lts as lts
-use Rattle.base64.proofs.look.Reads as look-reads
 
 shared-slice-read-look : tie.Need-shared-slice-read-look
 shared-slice-read-look c = search needs
@@ -85,10 +82,22 @@ same-length : tie.Need-same-length
 same-length c = simp length-set
 
 returns : tie.Need-returns
-returns c = group-good (c .before .before .before .before .before .before .before .before .before .before .before .args .text .now) (c .before .before .before .before .before .before .before .before .before .before .before .args .i) (c .before .before .before .before .before .before .before .before .before .before .before .args .out .now) (c .before .before .before .before .before .before .before .before .before .before .before .args .o) (c .before .before .before .before .before .before .before .look .result) (c .before .before .before .before .before .look2 .result) (c .before .before .before .look3 .result) (c .before .look4 .result) (c .before .before .before .before .before .before .before .before .before .before .before .pre .1 .1) (c .before .before .before .before .before .before .before .look .ensures) (c .before .before .before .before .before .look2 .ensures) (c .before .before .before .look3 .ensures) (c .before .look4 .ensures) (c .if1 .taken)
+returns c =
+    let a = c .before .before .before .before .before .before .before .before .before .before .before .args in
+    let l1 = c .before .before .before .before .before .before .before .look in
+    let l2 = c .before .before .before .before .before .look2 in
+    let l3 = c .before .before .before .look3 in
+    let l4 = c .before .look4 in
+    group-good (a .text .now) (a .i) (a .out .now) (a .o) (l1 .result) (l2 .result) (l3 .result) (l4 .result) (c .before .before .before .before .before .before .before .before .before .before .before .pre .1 .1) (l1 .ensures) (l2 .ensures) (l3 .ensures) (l4 .ensures) (c .if1 .taken)
 
 returns-2 : tie.Need-returns-2
-returns-2 c = group-bad (c .before .before .before .before .before .before .before .before .before .before .before .args .text .now) (c .before .before .before .before .before .before .before .before .before .before .before .args .i) (c .before .before .before .before .before .before .before .before .before .before .before .args .out .now) (c .before .before .before .before .before .before .before .before .before .before .before .args .o) (c .before .before .before .before .before .before .before .look .result) (c .before .before .before .before .before .look2 .result) (c .before .before .before .look3 .result) (c .before .look4 .result) (c .before .before .before .before .before .before .before .look .ensures) (c .before .before .before .before .before .look2 .ensures) (c .before .before .before .look3 .ensures) (c .before .look4 .ensures) (c .if1 .left)
+returns-2 c =
+    let a = c .before .before .before .before .before .before .before .before .before .before .before .args in
+    let l1 = c .before .before .before .before .before .before .before .look in
+    let l2 = c .before .before .before .before .before .look2 in
+    let l3 = c .before .before .before .look3 in
+    let l4 = c .before .look4 in
+    group-bad (a .text .now) (a .i) (a .out .now) (a .o) (l1 .result) (l2 .result) (l3 .result) (l4 .result) (l1 .ensures) (l2 .ensures) (l3 .ensures) (l4 .ensures) (c .if1 .left)
 
 pub group-spec : {M : Type 1} → statement M
 group-spec =

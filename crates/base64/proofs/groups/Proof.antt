@@ -7,13 +7,10 @@ use borrow.Author.Tests.{not-true, not-false}
 use lib.ListN.{length}
 use Rattle.laws.specs.Bytes.{pasted}
 use Rattle.laws.proofs.Lists.{pasted-none}
-use Rattle.base64.specs.Contract.{Groups, run, runCount}
+use Rattle.base64.specs.Contract.{run, runCount}
 use Rattle.base64.proofs.Runs.{groups-next, groups-stop}
 use Rattle.base64.proofs.groups.Statement.{statement}
 use Rattle.base64.proofs.groups.Tie as tie
-use Rattle.base64.proofs.groups.Reads as reads
-use Rattle.base64.proofs.groups.Lts as lts
-use Rattle.base64.proofs.group.Reads as group-reads
 
 abbrev Inv-loop : tie.InvT-loop
 Inv-loop table text n out₀ g₀ out g = (g ≤ n) × (runCount g text ≡ g) × (out ≡ pasted out₀ 0 (run g text)) × (length out ≡ length out₀)
@@ -38,7 +35,12 @@ same-length : tie.Need-same-length Inv-loop μ-loop
 same-length c = c .before .before .before .group .kept .1 .1 .1 .0 ∙ c .before .before .before .before .before .before .loop .inv .3
 
 returns : tie.Need-returns Inv-loop μ-loop
-returns c = groups-stop (c .before .before .before .before .before .before .before .before .before .args .text .now) (c .before .before .before .before .before .before .before .before .before .args .n) (c .before .before .before .before .before .before .loop .g) (c .before .before .before .before .before .before .before .before .before .args .out .now) (c .before .before .before .before .before .before .loop .out) (c .before .before .before .group .last .1 .1 .1 .0) (c .before .before .before .group .result) (c .before .before .before .before .before .before .before .before .before .pre .1 .0) (c .before .before .before .before .before .before .before .before .before .pre .1 .1) (c .before .before .before .before .before .loop-test .taken) (c .before .before .before .before .before .before .loop .inv .1) (c .before .before .before .before .before .before .loop .inv .2) (c .before .before .before .group .ensures) (not-true (c .before .before .before .group .result) (c .if1 .taken))
+returns c =
+    let a = c .before .before .before .before .before .before .before .before .before .args in
+    let given = c .before .before .before .before .before .before .before .before .before .pre in
+    let at = c .before .before .before .before .before .before .loop in
+    let one = c .before .before .before .group in
+    groups-stop (a .text .now) (a .n) (at .g) (a .out .now) (at .out) (one .last .1 .1 .1 .0) (one .result) (given .1 .0) (given .1 .1) (c .before .before .before .before .before .loop-test .taken) (at .inv .1) (at .inv .2) (one .ensures) (not-true (one .result) (c .if1 .taken))
 
 add-g : tie.Need-add-g Inv-loop μ-loop
 add-g c = omega arith
@@ -48,16 +50,21 @@ loop-less c = omega arith
 
 loop-again : tie.Need-loop-again Inv-loop μ-loop
 loop-again c =
-    let w = groups-next (c .before .before .before .before .before .before .before .before .before .args .text .now) (c .before .before .before .before .before .before .before .before .before .args .n) (c .before .before .before .before .before .before .loop .g) (c .before .before .before .before .before .before .before .before .before .args .out .now) (c .before .before .before .before .before .before .loop .out) (c .before .before .before .group .last .1 .1 .1 .0) (c .before .before .before .group .result) (c .before .before .before .before .before .before .before .before .before .pre .1 .0) (c .before .before .before .before .before .before .before .before .before .pre .1 .1) (c .before .before .before .before .before .loop-test .taken) (c .before .before .before .before .before .before .loop .inv .1) (c .before .before .before .before .before .before .loop .inv .2) (c .before .before .before .group .ensures) (not-false (c .before .before .before .group .result) (c .if1 .left)) in
-    (omega arith, w .0, w .1, c .before .before .before .group .kept .1 .1 .1 .0 ∙ c .before .before .before .before .before .before .loop .inv .3)
+    let a = c .before .before .before .before .before .before .before .before .before .args in
+    let given = c .before .before .before .before .before .before .before .before .before .pre in
+    let at = c .before .before .before .before .before .before .loop in
+    let one = c .before .before .before .group in
+    let w = groups-next (a .text .now) (a .n) (at .g) (a .out .now) (at .out) (one .last .1 .1 .1 .0) (one .result) (given .1 .0) (given .1 .1) (c .before .before .before .before .before .loop-test .taken) (at .inv .1) (at .inv .2) (one .ensures) (not-false (one .result) (c .if1 .left)) in
+    (omega arith, w .0, w .1, one .kept .1 .1 .1 .0 ∙ at .inv .3)
 
 same-length-2 : tie.Need-same-length-2 Inv-loop μ-loop
 same-length-2 c = c .before .loop .inv .3
 
 returns-2 : tie.Need-returns-2 Inv-loop μ-loop
 returns-2 c =
-    let same : c .before .loop .g ≡ c .before .before .before .before .args .n = omega arith in
-    rw (← same) (record { count = sym (c .before .loop .inv .1); bytes = c .before .loop .inv .2 })
+    let at = c .before .loop in
+    let same : at .g ≡ c .before .before .before .before .args .n = omega arith in
+    rw (← same) (record { count = sym (at .inv .1); bytes = at .inv .2 })
 
 pub groups-spec : {M : Type 1} → statement M
 groups-spec =

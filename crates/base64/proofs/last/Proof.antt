@@ -4,11 +4,6 @@ use Rattle.base64.proofs.Steps.{all-good, all-bad}
 use borrow.Author.Needs.{needs}
 use Rattle.base64.proofs.last.Statement.{statement}
 use Rattle.base64.proofs.last.Tie as tie
-use Rattle.base64.proofs.last.Reads as reads
-use Rattle.base64.proofs.last.Lts as lts
-use Rattle.base64.proofs.group.Reads as group-reads
-use Rattle.base64.proofs.last_one.Reads as last-one-reads
-use Rattle.base64.proofs.last_two.Reads as last-two-reads
 
 add-if1 : tie.Need-add-if1
 add-if1 c = search needs
@@ -23,7 +18,9 @@ shared-slice-read-if2 : tie.Need-shared-slice-read-if2
 shared-slice-read-if2 c = search needs
 
 last-one-requires : tie.Need-last-one-requires
-last-one-requires c κs = (c .before .before .before .before .before .before .before .pre .0, (c .before .before .before .before .before .before .before .pre .1 .0, (c .before .before .before .before .before .before .before .pre .1 .1, (c .before .if2 .taken, c .before .before .before .if1 .taken))))
+last-one-requires c κs =
+    let given = c .before .before .before .before .before .before .before .pre in
+    (given .0, (given .1 .0, (given .1 .1, (c .before .if2 .taken, c .before .before .before .if1 .taken))))
 
 same-length : tie.Need-same-length
 same-length c = search needs
@@ -32,7 +29,9 @@ returns : tie.Need-returns
 returns c = search needs
 
 last-two-requires : tie.Need-last-two-requires
-last-two-requires c κs = (c .before .before .before .before .before .before .before .pre .0, (c .before .before .before .before .before .before .before .pre .1 .0, (c .before .before .before .before .before .before .before .pre .1 .1, (c .before .if2 .left, c .before .before .before .if1 .taken))))
+last-two-requires c κs =
+    let given = c .before .before .before .before .before .before .before .pre in
+    (given .0, (given .1 .0, (given .1 .1, (c .before .if2 .left, c .before .before .before .if1 .taken))))
 
 same-length-2 : tie.Need-same-length-2
 same-length-2 c = search needs
@@ -47,13 +46,19 @@ same-length-3 : tie.Need-same-length-3
 same-length-3 c = search needs
 
 returns-3 : tie.Need-returns-3
-returns-3 c = all-good (c .before .before .before .before .before .before .before .before .before .args .text .now) (c .before .before .before .before .before .before .before .before .before .args .i) (c .before .before .before .before .before .before .before .before .before .args .out .now) (c .before .before .before .before .before .before .before .before .before .args .o) (c .before .before .before .group .result) (c .before .before .before .group .last .1 .1 .1 .0) (c .before .before .before .before .before .if1 .left) (c .before .before .before .group .ensures) (c .if3 .taken)
+returns-3 c =
+    let a = c .before .before .before .before .before .before .before .before .before .args in
+    let one = c .before .before .before .group in
+    all-good (a .text .now) (a .i) (a .out .now) (a .o) (one .result) (one .last .1 .1 .1 .0) (c .before .before .before .before .before .if1 .left) (one .ensures) (c .if3 .taken)
 
 same-length-4 : tie.Need-same-length-4
 same-length-4 c = search needs
 
 returns-4 : tie.Need-returns-4
-returns-4 c = all-bad (c .before .before .before .before .before .before .before .before .before .args .text .now) (c .before .before .before .before .before .before .before .before .before .args .i) (c .before .before .before .before .before .before .before .before .before .args .out .now) (c .before .before .before .before .before .before .before .before .before .args .o) (c .before .before .before .group .result) (c .before .before .before .group .last .1 .1 .1 .0) (c .before .before .before .before .before .if1 .left) (c .before .before .before .group .ensures) (c .if3 .left)
+returns-4 c =
+    let a = c .before .before .before .before .before .before .before .before .before .args in
+    let one = c .before .before .before .group in
+    all-bad (a .text .now) (a .i) (a .out .now) (a .o) (one .result) (one .last .1 .1 .1 .0) (c .before .before .before .before .before .if1 .left) (one .ensures) (c .if3 .left)
 
 pub last-spec : {M : Type 1} → statement M
 last-spec =

@@ -4,16 +4,11 @@ use mathlib.Core.Path.{refl}
 use mathlib.Core.List.{[], _∷_}
 use Prim.Native.Nat.{_+_, _*_, _/_, _%_}
 use native.Mathlib.Omega.{arith}
-use lib.ListN.{getD, length-set}
-use Rattle.base64.specs.Base64.{value}
-use Rattle.base64.specs.Contract.{finalAt}
+use lib.ListN.{length-set}
 use Rattle.base64.proofs.Steps.{last-bad, last-good, store-two, two-bad-first, two-bad-second, two-bad-third, two-bad-bits, two-good}
 use borrow.Author.Needs.{needs}
 use Rattle.base64.proofs.last_two.Statement.{statement}
 use Rattle.base64.proofs.last_two.Tie as tie
-use Rattle.base64.proofs.last_two.Reads as reads
-use Rattle.base64.proofs.last_two.Lts as lts
-use Rattle.base64.proofs.look.Reads as look-reads
 
 shared-slice-read-look : tie.Need-shared-slice-read-look
 shared-slice-read-look c = search needs
@@ -22,7 +17,12 @@ look-requires : tie.Need-look-requires
 look-requires c κs = search needs
 
 returns : tie.Need-returns
-returns c = last-bad (finalAt (c .before .before .before .before .before .args .text .now) (c .before .before .before .before .before .args .i)) (c .before .before .before .before .before .args .out .now) (c .before .before .before .before .before .args .o) (two-bad-first (getD (c .before .before .before .before .before .args .text .now) (c .before .before .before .before .before .args .i) 0) (getD (c .before .before .before .before .before .args .text .now) (c .before .before .before .before .before .args .i + 1) 0) (getD (c .before .before .before .before .before .args .text .now) (c .before .before .before .before .before .args .i + 2) 0) (getD (c .before .before .before .before .before .args .text .now) (c .before .before .before .before .before .args .i + 3) 0) (c .before .look .result) (value (getD (c .before .before .before .before .before .args .text .now) (c .before .before .before .before .before .args .i + 1) 0)) (value (getD (c .before .before .before .before .before .args .text .now) (c .before .before .before .before .before .args .i + 2) 0)) (c .before .before .before .before .before .pre .1 .1 .1 .0) (c .before .before .before .before .before .pre .1 .1 .1 .1) (c .before .look .ensures) refl refl (c .if1 .taken))
+returns c =
+    let a = c .before .before .before .before .before .args in
+    let given = c .before .before .before .before .before .pre in
+    let l1 = c .before .look in
+    last-bad _ (a .out .now) (a .o)
+    (two-bad-first _ _ _ _ (l1 .result) _ _ (given .1 .1 .1 .0) (given .1 .1 .1 .1) (l1 .ensures) refl refl (c .if1 .taken))
 
 add-look : tie.Need-add-look
 add-look c = search needs
@@ -34,7 +34,13 @@ look-requires-2 : tie.Need-look-requires-2
 look-requires-2 c κs = search needs
 
 returns-2 : tie.Need-returns-2
-returns-2 c = last-bad (finalAt (c .before .before .before .before .before .before .before .before .args .text .now) (c .before .before .before .before .before .before .before .before .args .i)) (c .before .before .before .before .before .before .before .before .args .out .now) (c .before .before .before .before .before .before .before .before .args .o) (two-bad-second (getD (c .before .before .before .before .before .before .before .before .args .text .now) (c .before .before .before .before .before .before .before .before .args .i) 0) (getD (c .before .before .before .before .before .before .before .before .args .text .now) (c .before .before .before .before .before .before .before .before .args .i + 1) 0) (getD (c .before .before .before .before .before .before .before .before .args .text .now) (c .before .before .before .before .before .before .before .before .args .i + 2) 0) (getD (c .before .before .before .before .before .before .before .before .args .text .now) (c .before .before .before .before .before .before .before .before .args .i + 3) 0) (c .before .before .before .before .look .result) (c .before .look2 .result) (value (getD (c .before .before .before .before .before .before .before .before .args .text .now) (c .before .before .before .before .before .before .before .before .args .i + 2) 0)) (c .before .before .before .before .before .before .before .before .pre .1 .1 .1 .0) (c .before .before .before .before .before .before .before .before .pre .1 .1 .1 .1) (c .before .before .before .before .look .ensures) (c .before .look2 .ensures) refl (c .if2 .taken))
+returns-2 c =
+    let a = c .before .before .before .before .before .before .before .before .args in
+    let given = c .before .before .before .before .before .before .before .before .pre in
+    let l1 = c .before .before .before .before .look in
+    let l2 = c .before .look2 in
+    last-bad _ (a .out .now) (a .o)
+    (two-bad-second _ _ _ _ (l1 .result) (l2 .result) _ (given .1 .1 .1 .0) (given .1 .1 .1 .1) (l1 .ensures) (l2 .ensures) refl (c .if2 .taken))
 
 add-look-2 : tie.Need-add-look-2
 add-look-2 c = search needs
@@ -46,10 +52,24 @@ look-requires-3 : tie.Need-look-requires-3
 look-requires-3 c κs = search needs
 
 returns-3 : tie.Need-returns-3
-returns-3 c = last-bad (finalAt (c .before .before .before .before .before .before .before .before .before .before .before .args .text .now) (c .before .before .before .before .before .before .before .before .before .before .before .args .i)) (c .before .before .before .before .before .before .before .before .before .before .before .args .out .now) (c .before .before .before .before .before .before .before .before .before .before .before .args .o) (two-bad-third (getD (c .before .before .before .before .before .before .before .before .before .before .before .args .text .now) (c .before .before .before .before .before .before .before .before .before .before .before .args .i) 0) (getD (c .before .before .before .before .before .before .before .before .before .before .before .args .text .now) (c .before .before .before .before .before .before .before .before .before .before .before .args .i + 1) 0) (getD (c .before .before .before .before .before .before .before .before .before .before .before .args .text .now) (c .before .before .before .before .before .before .before .before .before .before .before .args .i + 2) 0) (getD (c .before .before .before .before .before .before .before .before .before .before .before .args .text .now) (c .before .before .before .before .before .before .before .before .before .before .before .args .i + 3) 0) (c .before .before .before .before .before .before .before .look .result) (c .before .before .before .before .look2 .result) (c .before .look3 .result) (c .before .before .before .before .before .before .before .before .before .before .before .pre .1 .1 .1 .0) (c .before .before .before .before .before .before .before .before .before .before .before .pre .1 .1 .1 .1) (c .before .before .before .before .before .before .before .look .ensures) (c .before .before .before .before .look2 .ensures) (c .before .look3 .ensures) (c .if3 .taken))
+returns-3 c =
+    let a = c .before .before .before .before .before .before .before .before .before .before .before .args in
+    let given = c .before .before .before .before .before .before .before .before .before .before .before .pre in
+    let l1 = c .before .before .before .before .before .before .before .look in
+    let l2 = c .before .before .before .before .look2 in
+    let l3 = c .before .look3 in
+    last-bad _ (a .out .now) (a .o)
+    (two-bad-third _ _ _ _ (l1 .result) (l2 .result) (l3 .result) (given .1 .1 .1 .0) (given .1 .1 .1 .1) (l1 .ensures) (l2 .ensures) (l3 .ensures) (c .if3 .taken))
 
 returns-4 : tie.Need-returns-4
-returns-4 c = last-bad (finalAt (c .before .before .before .before .before .before .before .before .before .before .before .before .args .text .now) (c .before .before .before .before .before .before .before .before .before .before .before .before .args .i)) (c .before .before .before .before .before .before .before .before .before .before .before .before .args .out .now) (c .before .before .before .before .before .before .before .before .before .before .before .before .args .o) (two-bad-bits (getD (c .before .before .before .before .before .before .before .before .before .before .before .before .args .text .now) (c .before .before .before .before .before .before .before .before .before .before .before .before .args .i) 0) (getD (c .before .before .before .before .before .before .before .before .before .before .before .before .args .text .now) (c .before .before .before .before .before .before .before .before .before .before .before .before .args .i + 1) 0) (getD (c .before .before .before .before .before .before .before .before .before .before .before .before .args .text .now) (c .before .before .before .before .before .before .before .before .before .before .before .before .args .i + 2) 0) (getD (c .before .before .before .before .before .before .before .before .before .before .before .before .args .text .now) (c .before .before .before .before .before .before .before .before .before .before .before .before .args .i + 3) 0) (c .before .before .before .before .before .before .before .before .look .result) (c .before .before .before .before .before .look2 .result) (c .before .before .look3 .result) (c .before .before .before .before .before .before .before .before .before .before .before .before .pre .1 .1 .1 .0) (c .before .before .before .before .before .before .before .before .before .before .before .before .pre .1 .1 .1 .1) (c .before .before .before .before .before .before .before .before .look .ensures) (c .before .before .before .before .before .look2 .ensures) (c .before .before .look3 .ensures) (c .if4 .taken))
+returns-4 c =
+    let a = c .before .before .before .before .before .before .before .before .before .before .before .before .args in
+    let given = c .before .before .before .before .before .before .before .before .before .before .before .before .pre in
+    let l1 = c .before .before .before .before .before .before .before .before .look in
+    let l2 = c .before .before .before .before .before .look2 in
+    let l3 = c .before .before .look3 in
+    last-bad _ (a .out .now) (a .o)
+    (two-bad-bits _ _ _ _ (l1 .result) (l2 .result) (l3 .result) (given .1 .1 .1 .0) (given .1 .1 .1 .1) (l1 .ensures) (l2 .ensures) (l3 .ensures) (c .if4 .taken))
 
 mul-out : tie.Need-mul-out
 mul-out c = search needs
@@ -77,9 +97,14 @@ same-length c = simp length-set
 
 returns-5 : tie.Need-returns-5
 returns-5 c =
-    last-good (finalAt (c .before .before .before .before .before .before .before .before .before .before .before .before .args .text .now) (c .before .before .before .before .before .before .before .before .before .before .before .before .args .i)) ((c .before .before .before .before .before .before .before .before .look .result * 4 + c .before .before .before .before .before .look2 .result / 16) ∷ (c .before .before .before .before .before .look2 .result % 16 * 16 + c .before .before .look3 .result / 4) ∷ []) (c .before .before .before .before .before .before .before .before .before .before .before .before .args .out .now) (c .before .before .before .before .before .before .before .before .before .before .before .before .args .o) _
-    (two-good (getD (c .before .before .before .before .before .before .before .before .before .before .before .before .args .text .now) (c .before .before .before .before .before .before .before .before .before .before .before .before .args .i) 0) (getD (c .before .before .before .before .before .before .before .before .before .before .before .before .args .text .now) (c .before .before .before .before .before .before .before .before .before .before .before .before .args .i + 1) 0) (getD (c .before .before .before .before .before .before .before .before .before .before .before .before .args .text .now) (c .before .before .before .before .before .before .before .before .before .before .before .before .args .i + 2) 0) (getD (c .before .before .before .before .before .before .before .before .before .before .before .before .args .text .now) (c .before .before .before .before .before .before .before .before .before .before .before .before .args .i + 3) 0) (c .before .before .before .before .before .before .before .before .look .result) (c .before .before .before .before .before .look2 .result) (c .before .before .look3 .result) (c .before .before .before .before .before .before .before .before .before .before .before .before .pre .1 .1 .1 .0) (c .before .before .before .before .before .before .before .before .before .before .before .before .pre .1 .1 .1 .1) (c .before .before .before .before .before .before .before .before .look .ensures) (c .before .before .before .before .before .look2 .ensures) (c .before .before .look3 .ensures) (c .before .before .before .before .before .before .before .if1 .left) (c .before .before .before .before .if2 .left) (c .before .if3 .left) (c .if4 .left))
-    (store-two (c .before .before .before .before .before .before .before .before .before .before .before .before .args .out .now) (c .before .before .before .before .before .before .before .before .before .before .before .before .args .o) (c .before .before .before .before .before .before .before .before .look .result * 4 + c .before .before .before .before .before .look2 .result / 16) (c .before .before .before .before .before .look2 .result % 16 * 16 + c .before .before .look3 .result / 4) (omega arith))
+    let a = c .before .before .before .before .before .before .before .before .before .before .before .before .args in
+    let given = c .before .before .before .before .before .before .before .before .before .before .before .before .pre in
+    let l1 = c .before .before .before .before .before .before .before .before .look in
+    let l2 = c .before .before .before .before .before .look2 in
+    let l3 = c .before .before .look3 in
+    last-good _ ((l1 .result * 4 + l2 .result / 16) ∷ (l2 .result % 16 * 16 + l3 .result / 4) ∷ []) (a .out .now) (a .o) _
+    (two-good _ _ _ _ (l1 .result) (l2 .result) (l3 .result) (given .1 .1 .1 .0) (given .1 .1 .1 .1) (l1 .ensures) (l2 .ensures) (l3 .ensures) (c .before .before .before .before .before .before .before .if1 .left) (c .before .before .before .before .if2 .left) (c .before .if3 .left) (c .if4 .left))
+    (store-two (a .out .now) (a .o) (l1 .result * 4 + l2 .result / 16) (l2 .result % 16 * 16 + l3 .result / 4) (omega arith))
 
 pub last-two-spec : {M : Type 1} → statement M
 last-two-spec =

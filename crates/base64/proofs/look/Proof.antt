@@ -1,7 +1,6 @@
 -- `base64::look` meets its contract: what stands in the table at a character is the number that it stands for.
 -- Assumes nothing.
 use borrow.Author.Needs.{needs}
-use native.Mathlib.Omega.{arith}
 use Rattle.base64.specs.Base64.{value}
 use Rattle.base64.proofs.Steps.{entry}
 use Rattle.base64.proofs.look.Statement.{statement}
@@ -11,7 +10,9 @@ element-copy-out-result : tie.Need-element-copy-out-result
 element-copy-out-result c = search needs
 
 returns : tie.Need-returns
-returns c = entry value 256 (c .before .args .c) (c .before .args .table .now) (c .before .pre) (search needs)
+returns c =
+    let a = c .before .args in
+    entry value 256 (a .c) (a .table .now) (c .before .pre) (search needs)
 
 pub look-spec : {M : Type 1} → statement M
 look-spec = tie.close (tie.spec element-copy-out-result returns)
