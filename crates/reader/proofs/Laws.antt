@@ -14,9 +14,9 @@ use Rattle.laws.specs.Bytes.{pasted, ofBe16}
 use Rattle.laws.proofs.Choice.{pick-yes, pick-no, pick-same, both-yes, both-no, both-last-no}
 use Rattle.laws.proofs.Lists.{pasted-none, pasted-take}
 use Rattle.crc.specs.Crc.{crcOf}
-use Rattle.frame.specs.declared.Reader.the-variants.{Idle, Open}
-use Rattle.frame.specs.Reader.{more, body, keeping, dropping, possible, bodyOf, crcBytes, filled, waiting, completed, absorb, begin, resume, begun, resumed, takeLine}
-use Rattle.frame.specs.declared.Reader.{Reader}
+use Rattle.reader.specs.declared.Reader.the-variants.{Idle, Open}
+use Rattle.reader.specs.Reader.{more, body, keeping, dropping, possible, bodyOf, crcBytes, filled, waiting, completed, absorb, begin, resume, begun, resumed, takeLine}
+use Rattle.reader.specs.declared.Reader.{Reader}
 use Rattle.frame.specs.Line.{marked, ended, textOf}
 use Rattle.base64.specs.Base64.{decode}
 use Rattle.laws.specs.Choice.{pick}

@@ -5,8 +5,8 @@ use mathlib.Core.Bool.{Bool}
 use mathlib.Core.List.{List}
 use mathlib.Core.Option.{Option}
 use Rattle.laws.specs.Choice.{pick}
-use Rattle.frame.specs.declared.Reader.{Reader}
-use Rattle.frame.specs.Reader.{Outcome, begun, resumed}
+use Rattle.reader.specs.declared.Reader.{Reader}
+use Rattle.reader.specs.Reader.{Outcome, begun, resumed}
 
 -- an initial frame begins a packet, a partial one goes on with the open one
 unfoldable pub framed : Bool → Reader → Option (List ℕ) → List ℕ → Outcome

@@ -1,8 +1,5 @@
 // The frame reader: one line at a time becomes "more", a packet, or one refusal.
 use base64::Decoded;
-use frame::Answer;
-use frame::Reader;
-use frame::Taken;
 use refusal::Refusal;
 ghost use mathlib.Core.Path.{_≡_};
 ghost use mathlib.Core.List.{List};
@@ -10,11 +7,39 @@ ghost use Prim.Native.Nat.{ℕ, _+_, _-_, _≤_, _<_};
 ghost use lib.ListN.{length, getD, take};
 ghost use Rattle.laws.specs.Bytes.{pasted, ofBe16};
 ghost use Rattle.crc.specs.Crc.{crcOf};
-ghost use Rattle.frame.specs.Reader.{outcome, crcBytes, filled, waiting, completed, absorb, begin, resume, takeLine};
+ghost use Rattle.reader.specs.Reader.{outcome, crcBytes, filled, waiting, completed, absorb, begin, resume, takeLine};
 ghost use Rattle.reader.specs.Frame.{framed};
 ghost use Rattle.base64.specs.Base64.{decode};
 ghost use Rattle.base64.specs.Contract.{Decodes};
 ghost use Rattle.frame.specs.Line.{marked, textOf};
+
+// The reader's record between two lines.
+pub enum Reader {
+    // No packet is open.
+    Idle,
+    // A packet is open: its total, how many body and CRC bytes have come, and the first CRC byte where only the last is missing, else 0.
+    Open {
+        total: usize,
+        come: usize,
+        first: u8,
+    },
+}
+
+// What the reader says to a line.
+pub enum Answer {
+    // The line was taken, and the packet wants more.
+    More,
+    // The line completed a packet: this many body bytes stand at the packet buffer's start.
+    Packet(usize),
+    // The line was refused.
+    Refused(Refusal),
+}
+
+// The reader's answer, with its record for the next line.
+pub struct Taken {
+    pub answer: Answer,
+    pub reader: Reader,
+}
 
 // The packet buffer takes the body bytes among x, which come on top of `come` others.
 fn fill(total: usize, come: usize, x: &[u8], p: &mut [u8])

@@ -11,10 +11,10 @@ use lib.Seq.{take-all, take-append-le, drop-append-le, drop-drop}
 use Rattle.laws.specs.Bytes.{be16}
 use Rattle.laws.proofs.Choice.{pick-yes, pick-no}
 use Rattle.crc.specs.Crc.{crcOf}
-use Rattle.frame.specs.Sender.{frameCount, rawOf, startOf, stopOf, pieceOf, laterCuts, cuts}
+use Rattle.sender.specs.Sender.{frameCount, rawOf, startOf, stopOf, pieceOf, laterCuts, cuts}
 use Rattle.roundtrip.specs.RoundTrip.{piecesFrom, CutsAgree}
 use Rattle.roundtrip.specs.Standing.{afterTotal}
-use Rattle.frame.proofs.Count.{count-one, count-several, count-later, count-last, start-is, start-later, stop-next, stop-last}
+use Rattle.sender.proofs.Count.{count-one, count-several, count-later, count-last, start-is, start-later, stop-next, stop-last}
 use Rattle.roundtrip.proofs.Pieces.{after-length, piece-first, piece-later}
 
 -- a part that ends within the first of two lists, or where that ends, is a part of the first

@@ -1,4 +1,5 @@
 pub mod Noise
+pub mod Lines
 pub mod Step
 pub mod Pieces
 pub mod Cuts

@@ -15,9 +15,9 @@ use Rattle.laws.specs.Bytes.{ofBe16}
 use Rattle.laws.proofs.Choice.{pick-case}
 use Rattle.base64.specs.Base64.{decode}
 use Rattle.frame.specs.Line.{marked, ended, textOf}
-use Rattle.frame.specs.declared.Reader.{Reader}
-use Rattle.frame.specs.declared.Reader.the-variants.{Idle}
-use Rattle.frame.specs.Reader.{Said, more, body, refused, Outcome, keeping, completed, absorb, begin, resume, begun, resumed, takeLine}
+use Rattle.reader.specs.declared.Reader.{Reader}
+use Rattle.reader.specs.declared.Reader.the-variants.{Idle}
+use Rattle.reader.specs.Reader.{Said, more, body, refused, Outcome, keeping, completed, absorb, begin, resume, begun, resumed, takeLine}
 use Rattle.roundtrip.specs.RoundTrip.{Run, saying, feed, Amid, over, next, noise, hearing, heard, NoiseStays}
 
 -- an answer is refusal 2 or 3

@@ -12,17 +12,17 @@ use Rattle.laws.proofs.Choice.{pick-yes, pick-no}
 use Rattle.laws.proofs.Lists.{be16-back}
 use Rattle.crc.specs.Crc.{crcOf}
 use Rattle.crc.proofs.Laws.{onward-lt}
-use Rattle.frame.specs.declared.Reader.{Reader}
-use Rattle.frame.specs.declared.Reader.the-variants.{Idle}
-use Rattle.frame.specs.Reader.{Said, more, body, begin, takeLine}
-use Rattle.frame.specs.Sender.{frameCount, startOf, stopOf, pieceOf, frameOf}
+use Rattle.reader.specs.declared.Reader.{Reader}
+use Rattle.reader.specs.declared.Reader.the-variants.{Idle}
+use Rattle.reader.specs.Reader.{Said, more, body, begin, takeLine}
+use Rattle.sender.specs.Sender.{frameCount, startOf, stopOf, pieceOf, frameOf}
 use Rattle.roundtrip.specs.RoundTrip.{framesFrom, frames, saying, feed, hearing, heard, RoundTrip}
 use Rattle.roundtrip.specs.Standing.{afterTotal, standing, holding, whole}
 use Rattle.roundtrip.proofs.Noise.{without-noise}
 use Rattle.roundtrip.proofs.Step.{holding-none, holding-length, initial-step, partial-step, whole-more, whole-body}
-use Rattle.frame.proofs.Count.{count-some, start-is, start-first, stop-next, stop-last}
+use Rattle.sender.proofs.Count.{count-some, start-is, start-first, stop-next, stop-last}
 use Rattle.roundtrip.proofs.Pieces.{after-length, piece-first, piece-joined, piece-length, piece-bytes}
-use Rattle.frame.proofs.Lines.{initial-taken, partial-taken}
+use Rattle.roundtrip.proofs.Lines.{initial-taken, partial-taken}
 
 -- all that our sender's frames draw is heard
 heard-all : (n b : ℕ) → heard (replicate n more ++ (body b ∷ [])) ≡ replicate n more ++ (body b ∷ [])

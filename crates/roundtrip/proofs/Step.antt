@@ -17,8 +17,8 @@ use Rattle.laws.specs.Bytes.{ofBe16}
 use Rattle.laws.proofs.Choice.{pick-yes, pick-no, pick-arms}
 use Rattle.laws.proofs.Lists.{pasted-none, pasted-start, pasted-length, pasted-twice, take-past, drop-past}
 use Rattle.crc.specs.Crc.{crcOf}
-use Rattle.frame.specs.declared.Reader.the-variants.{Idle}
-use Rattle.frame.specs.Reader.{more, body, bodyOf, crcBytes, filled, waiting, completed, possible, absorb, begin, resume}
+use Rattle.reader.specs.declared.Reader.the-variants.{Idle}
+use Rattle.reader.specs.Reader.{more, body, bodyOf, crcBytes, filled, waiting, completed, possible, absorb, begin, resume}
 use Rattle.roundtrip.specs.Standing.{firstOf, standing, holding, closed, whole}
 
 -- the CRC bytes that have come are what follows the body in u and x joined

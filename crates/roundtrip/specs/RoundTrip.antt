@@ -8,10 +8,10 @@ use lib.Dec.{eqb}
 use lib.ListN.{length, replicate}
 use Rattle.laws.specs.Choice.{pick}
 use Rattle.laws.specs.Bytes.{Bytes, pasted}
-use Rattle.frame.specs.declared.Reader.{Reader}
-use Rattle.frame.specs.declared.Reader.the-variants.{Idle}
-use Rattle.frame.specs.Reader.{Said, more, body, refused, Outcome, takeLine}
-use Rattle.frame.specs.Sender.{frameCount, pieceOf, frameOf, cuts}
+use Rattle.reader.specs.declared.Reader.{Reader}
+use Rattle.reader.specs.declared.Reader.the-variants.{Idle}
+use Rattle.reader.specs.Reader.{Said, more, body, refused, Outcome, takeLine}
+use Rattle.sender.specs.Sender.{frameCount, pieceOf, frameOf, cuts}
 
 -- the n frames of a body from number k on, as lines
 unfoldable pub framesFrom : List ℕ → ℕ → ℕ → List (List ℕ)

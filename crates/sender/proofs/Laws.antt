@@ -18,8 +18,8 @@ use Rattle.crc.specs.Crc.{crcOf}
 use Rattle.base64.specs.Base64.{encode}
 use Rattle.base64.proofs.Laws.{encode-length}
 use Rattle.frame.specs.Line.{initial, partial, frame}
-use Rattle.frame.specs.Sender.{frameCount, rawOf, startOf, stopOf, pieceOf, frameOf, sendable, frameIs, refused, sendFrame}
-use Rattle.frame.proofs.Count.{stop-last, stop-other, start-is, start-first, piece-size}
+use Rattle.sender.specs.Sender.{frameCount, rawOf, startOf, stopOf, pieceOf, frameOf, sendable, frameIs, refused, sendFrame}
+use Rattle.sender.proofs.Count.{stop-last, stop-other, start-is, start-first, piece-size}
 use Rattle.sender.specs.Piece.{headOf, fromOf, toOf, middleOf, tailOf, markerOf}
 
 -- the three parts at each way of their tests

@@ -8,7 +8,7 @@ use Rattle.laws.specs.Choice.{pick}
 use Rattle.laws.specs.Bytes.{be16}
 use Rattle.crc.specs.Crc.{crcOf}
 use Rattle.frame.specs.Line.{initial, partial}
-use Rattle.frame.specs.Sender.{frameCount, startOf, stopOf}
+use Rattle.sender.specs.Sender.{frameCount, startOf, stopOf}
 
 -- total, in frame 0
 unfoldable pub headOf : ℕ → ℕ → List ℕ

@@ -1,15 +1,22 @@
 // The frame sender: frame number k of a body, as a line at the start of a lent buffer.
-use frame::Sent;
 use refusal::Refusal;
 ghost use mathlib.Core.Path.{_≡_};
 ghost use mathlib.Core.List.{List};
 ghost use Prim.Native.Nat.{ℕ, _+_, _-_, _≤_, _<_};
 ghost use lib.ListN.{length};
 ghost use Rattle.laws.specs.Bytes.{pasted};
-ghost use Rattle.frame.specs.Sender.{frameCount, startOf, stopOf, pieceOf, frameOf, outcome, sendFrame};
+ghost use Rattle.sender.specs.Sender.{frameCount, startOf, stopOf, pieceOf, frameOf, outcome, sendFrame};
 ghost use Rattle.base64.specs.Base64.{encode};
 ghost use Rattle.frame.specs.Line.{frame};
 ghost use Rattle.sender.specs.Piece.{headOf, toOf, fromOf, middleOf, tailOf, markerOf};
+
+// What the sender says to a body and a frame number.
+pub enum Sent {
+    // The frame stands at the buffer's start: its length, and how many frames the body takes.
+    Frame { length: usize, count: usize },
+    // Nothing was written.
+    Refused(Refusal),
+}
 
 // A body of this many bytes or more takes more than one frame.
 const ONE_FRAME_LIMIT: usize = 89;

@@ -5,7 +5,7 @@ use mathlib.Core.List.{List}
 use Prim.Native.Nat.{ℕ, _+_, _*_}
 use native.Mathlib.Omega.{arith}
 use Rattle.laws.specs.Bytes.{ofBe16}
-use Rattle.frame.specs.Reader.{absorb}
+use Rattle.reader.specs.Reader.{absorb}
 use Rattle.laws.proofs.Lists.{rest-all}
 use Rattle.reader.proofs.Laws.{begin-short, begin-small, begin-packet}
 use borrow.Author.Needs.{needs}

@@ -3,8 +3,8 @@
 use mathlib.Core.Path.{_≡_, sym, ap, _∙_}
 use mathlib.Core.List.{List}
 use Prim.Native.Nat.{ℕ, _-_}
-use Rattle.frame.specs.declared.Reader.the-variants.{Idle}
-use Rattle.frame.specs.Reader.{Outcome, body}
+use Rattle.reader.specs.declared.Reader.the-variants.{Idle}
+use Rattle.reader.specs.Reader.{Outcome, body}
 use Rattle.reader.proofs.Laws.{completed-wrong, completed-right}
 use borrow.Author.Needs.{needs}
 use Rattle.reader.proofs.complete.Statement.{statement}

@@ -2,9 +2,9 @@
 -- Assumes nothing.
 use mathlib.Core.Path.{_≡_, sym, ap, _∙_}
 use native.Mathlib.Omega.{arith}
-use Rattle.frame.specs.declared.Reader.{Reader}
-use Rattle.frame.specs.declared.Reader.the-variants.{Idle}
-use Rattle.frame.specs.Reader.{keeping, resume}
+use Rattle.reader.specs.declared.Reader.{Reader}
+use Rattle.reader.specs.declared.Reader.the-variants.{Idle}
+use Rattle.reader.specs.Reader.{keeping, resume}
 use Rattle.reader.proofs.Laws.{possible-small, possible-large, possible-past, possible-is, resume-idle, resume-impossible, resume-possible}
 use borrow.Author.Needs.{needs}
 use Rattle.reader.proofs.resume_packet.Statement.{statement}

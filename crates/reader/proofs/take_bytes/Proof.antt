@@ -4,8 +4,8 @@ use mathlib.Core.Path.{_≡_, sym, ap₂, _∙_}
 use mathlib.Core.List.{List}
 use Prim.Native.Nat.{ℕ}
 use native.Mathlib.Omega.{arith}
-use Rattle.frame.specs.declared.Reader.{Reader}
-use Rattle.frame.specs.Reader.{Outcome, more}
+use Rattle.reader.specs.declared.Reader.{Reader}
+use Rattle.reader.specs.Reader.{Outcome, more}
 use Rattle.reader.proofs.Laws.{absorb-short, absorb-many, absorb-more, absorb-last}
 use borrow.Author.Needs.{needs}
 use Rattle.reader.proofs.take_bytes.Statement.{statement}

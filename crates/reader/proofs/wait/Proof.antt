@@ -5,8 +5,8 @@ use Prim.Native.Nat.{ℕ, _+_}
 use lib.ListN.{length}
 use borrow.Author.Tests.{eq-eqb, ne-eqb}
 use Rattle.laws.proofs.Choice.{pick-yes, pick-no}
-use Rattle.frame.specs.declared.Reader.the-variants.{Open}
-use Rattle.frame.specs.Reader.{waiting}
+use Rattle.reader.specs.declared.Reader.the-variants.{Open}
+use Rattle.reader.specs.Reader.{waiting}
 use borrow.Author.Needs.{needs}
 use Rattle.reader.proofs.wait.Statement.{statement}
 use Rattle.reader.proofs.wait.Tie as tie

@@ -3,7 +3,7 @@
 use mathlib.Core.Path.{_≡_, sym, ap, _∙_}
 use Prim.Native.Nat.{ℕ, _-_, _+_}
 use native.Mathlib.Omega.{arith}
-use Rattle.frame.proofs.Count.{start-is}
+use Rattle.sender.proofs.Count.{start-is}
 use Rattle.sender.proofs.Laws.{to-last, to-next}
 use borrow.Author.Needs.{needs}
 use Rattle.sender.proofs.body_end.Statement.{statement}

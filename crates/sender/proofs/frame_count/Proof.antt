@@ -2,7 +2,7 @@
 -- Assumes nothing.
 use mathlib.Core.Path.{sym}
 use native.Mathlib.Omega.{arith}
-use Rattle.frame.proofs.Count.{count-one, count-two, count-many}
+use Rattle.sender.proofs.Count.{count-one, count-two, count-many}
 use borrow.Author.Needs.{needs}
 use Rattle.sender.proofs.frame_count.Statement.{statement}
 use Rattle.sender.proofs.frame_count.Tie as tie

@@ -4,7 +4,7 @@ use mathlib.Core.Path.{_≡_}
 use Prim.Native.Nat.{ℕ, _<_}
 use native.Mathlib.Omega.{arith}
 use lib.ListN.{length}
-use Rattle.frame.specs.Sender.{frameCount}
+use Rattle.sender.specs.Sender.{frameCount}
 use Rattle.sender.proofs.Laws.{parts-length, parts-pasted, piece-length}
 use borrow.Author.Needs.{needs}
 use Rattle.sender.proofs.put_piece.Statement.{statement}

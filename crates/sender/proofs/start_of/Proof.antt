@@ -1,7 +1,7 @@
 -- `sender::start_of` meets its contract: it is the lesser of two numbers.
 -- Assumes nothing.
 use native.Mathlib.Omega.{arith}
-use Rattle.frame.specs.Sender.{startOf}
+use Rattle.sender.specs.Sender.{startOf}
 use borrow.Author.Needs.{needs}
 use Rattle.sender.proofs.start_of.Statement.{statement}
 use Rattle.sender.proofs.start_of.Tie as tie

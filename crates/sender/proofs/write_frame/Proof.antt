@@ -9,7 +9,7 @@ use lib.Seq.{take-at}
 use Rattle.laws.specs.Bytes.{pasted}
 use Rattle.laws.proofs.Lists.{pasted-start}
 use Rattle.frame.specs.Line.{frame}
-use Rattle.frame.specs.Sender.{pieceOf, frameOf}
+use Rattle.sender.specs.Sender.{pieceOf, frameOf}
 use Rattle.sender.specs.Piece.{markerOf}
 use borrow.Author.Needs.{needs}
 use Rattle.sender.proofs.write_frame.Statement.{statement}

@@ -9,9 +9,9 @@ use Rattle.laws.specs.Choice.{pick, both}
 use Rattle.laws.specs.Bytes.{pasted, be16}
 use Rattle.refusal.specs.Number.{numberOf}
 use Rattle.crc.specs.Crc.{crcOf}
 use Rattle.frame.specs.Line.{initial, partial, frame}
-use Rattle.frame.specs.declared.Sent.{Sent}
-use Rattle.frame.specs.declared.Sent.the-variants.{Frame, Refused}
+use Rattle.sender.specs.declared.Sent.{Sent}
+use Rattle.sender.specs.declared.Sent.the-variants.{Frame, Refused}
 
 -- "A body shorter than 89 goes in one frame with total and CRC."
 abbrev pub oneFrame : ℕ → Bool

@@ -7,7 +7,7 @@ use native.Mathlib.Omega.{arith}
 use native.Mathlib.Decide.{decLe}
 use borrow.Author.Tests.{lt-ltb, le-ltb, le-leb, lt-leb, eq-eqb, ne-eqb}
 use Rattle.laws.proofs.Choice.{pick-yes, pick-no}
-use Rattle.frame.specs.Sender.{frameCount, startOf, stopOf}
+use Rattle.sender.specs.Sender.{frameCount, startOf, stopOf}
 
 -- a body of fewer than 89 bytes takes one frame
 pub count-one : (b : ℕ) → b < 89 → frameCount b ≡ 1

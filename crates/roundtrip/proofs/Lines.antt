@@ -13,9 +13,9 @@ use Rattle.laws.specs.Bytes.{Bytes}
 use Rattle.laws.proofs.Choice.{pick-yes, pick-no}
 use Rattle.base64.specs.Base64.{encode, decode}
 use Rattle.base64.proofs.Laws.{decode-encode, encode-length}
 use Rattle.frame.specs.Line.{initial, partial, frame, marked, ended, textOf}
-use Rattle.frame.specs.declared.Reader.{Reader}
-use Rattle.frame.specs.Reader.{keeping, begin, resume, begun, resumed, takeLine}
+use Rattle.reader.specs.declared.Reader.{Reader}
+use Rattle.reader.specs.Reader.{keeping, begin, resume, begun, resumed, takeLine}
 
 -- a line is its marker, its text and 0A
 line-is : (a b : ℕ) (raw : List ℕ) → frame (a ∷ b ∷ []) raw ≡ (a ∷ b ∷ encode raw) ++ (0x0A ∷ [])

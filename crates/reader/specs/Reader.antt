@@ -12,12 +12,12 @@ use Rattle.laws.specs.Bytes.{pasted, ofBe16}
 use Rattle.refusal.specs.Number.{numberOf}
 use Rattle.crc.specs.Crc.{crcOf}
 use Rattle.base64.specs.Base64.{decode}
 use Rattle.frame.specs.Line.{marked, ended, textOf}
-use Rattle.frame.specs.declared.Reader.{Reader}
-use Rattle.frame.specs.declared.Reader.the-variants.{Idle, Open}
-use Rattle.frame.specs.declared.Answer.{Answer}
-use Rattle.frame.specs.declared.Answer.the-variants.{More, Packet, Refused}
-use Rattle.frame.specs.declared.Taken.{Taken}
+use Rattle.reader.specs.declared.Reader.{Reader}
+use Rattle.reader.specs.declared.Reader.the-variants.{Idle, Open}
+use Rattle.reader.specs.declared.Answer.{Answer}
+use Rattle.reader.specs.declared.Answer.the-variants.{More, Packet, Refused}
+use Rattle.reader.specs.declared.Taken.{Taken}
 
 -- what the reader says, in the paper's terms: more is wanted, a body of so many bytes, or the refusal of this number
 pub data Said : Type 0 where
