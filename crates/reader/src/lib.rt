@@ -154,13 +154,14 @@ fn take_bytes(total: usize, come: usize, first: u8, x: &[u8], p: &mut [u8]) -> T
     requires { ⌜ (10 ≤ total) × (total ≤ 65535) × (come < total) ⌝ }
     ensures { λ r. ⌜ outcome r (now (p .exit)) ≡ absorb total come first (now (x .entry)) (now (p .entry)) ⌝ }
 {
-    if p.len() < total - 2 {
+    let body = total - 2;
+    let there = come + x.len();
+    if p.len() < body {
         return Taken {
             answer: Answer::Refused(Refusal::BodyTooLong),
             reader: Reader::Idle,
         };
     }
-    let there = come + x.len();
     if total < there {
         return Taken {
             answer: Answer::Refused(Refusal::TooManyBytes),

@@ -1,9 +1,8 @@
 -- `crc::shift` meets its contract: below 32,768 no bit leaves the register, and from there on `c - 32768` doubled is what stays of `c` doubled.
 -- Assumes nothing.
-use mathlib.Core.Path.{_≡_, sym, ap}
-use Prim.Native.Nat.{ℕ, _*_, _-_, _%_}
+use mathlib.Core.Path.{_≡_}
+use Prim.Native.Nat.{_*_, _-_, _%_}
 use native.Mathlib.Omega.{arith}
-use lib.Bits.{bitXor}
 use borrow.Author.Tests.{lt-ltb, le-ltb}
 use Rattle.laws.proofs.Choice.{pick-yes, pick-no}
 use Rattle.crc.specs.Crc.{shifted}

@@ -4,15 +4,10 @@ use Rattle.laws.proofs.Lists.{same-is}
 use borrow.Author.Needs.{needs}
 use Rattle.laws.proofs.equal.Statement.{statement}
 use Rattle.laws.proofs.equal.Tie as tie
-use Rattle.laws.proofs.equal.Reads as reads
-use Rattle.laws.proofs.equal.Lts as lts
-use Rattle.check.proofs.same.Reads as same-reads
 
--- src/lib.rt:54:5
 same-requires : tie.Need-same-requires
 same-requires c κs = search needs
 
--- src/lib.rt:51:1
 returns : tie.Need-returns
 returns c =
     let a = c .before .before .before .args in

@@ -1,16 +1,13 @@
 -- `laws::fill` meets its contract: the first i bytes are v, and the others are as they were.
 -- Assumes nothing.
-use mathlib.Core.Path.{_≡_, refl, sym, ap, _∙_}
-use mathlib.Core.List.{List, [], _++_, append-nil}
-use Prim.Native.Nat.{ℕ, _+_, _-_, _≤_}
-use native.Mathlib.Nat.{le-antisymm}
+use mathlib.Core.Path.{_≡_, refl, ap, _∙_}
+use mathlib.Core.List.{List, _++_, append-nil}
+use Prim.Native.Nat.{ℕ, _-_, _≤_}
 use native.Mathlib.Omega.{arith}
 use lib.ListN.{length, set, drop, replicate, length-set, drop-of-length-le}
 use borrow.Author.Fill.{fill-none, fill-more}
 use Rattle.laws.proofs.fill.Statement.{statement}
 use Rattle.laws.proofs.fill.Tie as tie
-use Rattle.laws.proofs.fill.Reads as reads
-use Rattle.laws.proofs.fill.Lts as lts
 
 abbrev Inv-loop : tie.InvT-loop
 Inv-loop buf₀ v i₀ buf i = (buf ≡ replicate i v ++ drop i buf₀) × (i ≤ length buf) × (length buf ≡ length buf₀)
@@ -18,23 +15,18 @@ Inv-loop buf₀ v i₀ buf i = (buf ≡ replicate i v ++ drop i buf₀) × (i �
 abbrev μ-loop : tie.MeasureT-loop
 μ-loop buf₀ v i₀ buf i = length buf₀ - i
 
--- src/lib.rt:30:5
 loop-holds : tie.Need-loop-holds Inv-loop μ-loop
 loop-holds c = (fill-none (c .args .buf .now) (c .args .v), omega arith, refl)
 
--- src/lib.rt:31:9
 slice-write-buf : tie.Need-slice-write-buf Inv-loop μ-loop
 slice-write-buf c = omega arith
 
--- src/lib.rt:32:9
 add-i : tie.Need-add-i Inv-loop μ-loop
 add-i c = omega arith
 
--- src/lib.rt:30:5
 loop-less : tie.Need-loop-less Inv-loop μ-loop
 loop-less c = omega arith
 
--- src/lib.rt:30:5
 loop-again : tie.Need-loop-again Inv-loop μ-loop
 loop-again c =
     let l = c .before in
@@ -44,11 +36,9 @@ loop-again c =
       simp length-set (l .loop .inv .2),
     )
 
--- src/lib.rt:26:1
 same-length : tie.Need-same-length Inv-loop μ-loop
 same-length c = c .before .loop .inv .2
 
--- src/lib.rt:26:1
 returns : tie.Need-returns Inv-loop μ-loop
 returns c =
     let l = c .before in

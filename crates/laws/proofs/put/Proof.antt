@@ -4,9 +4,6 @@ use borrow.Author.Needs.{needs}
 use Rattle.laws.proofs.Lists.{copied-part}
 use Rattle.laws.proofs.put.Statement.{statement}
 use Rattle.laws.proofs.put.Tie as tie
-use Rattle.laws.proofs.put.Reads as reads
-use Rattle.laws.proofs.put.Lts as lts
-use Rattle.bytes.proofs.copy.Reads as copy-reads
 
 sub-copy : tie.Need-sub-copy
 sub-copy c = search needs

@@ -6,34 +6,25 @@ use Rattle.laws.proofs.Lists.{set-twice-pasted}
 use borrow.Author.Needs.{needs}
 use Rattle.laws.proofs.put_be16.Statement.{statement}
 use Rattle.laws.proofs.put_be16.Tie as tie
-use Rattle.laws.proofs.put_be16.Reads as reads
-use Rattle.laws.proofs.put_be16.Lts as lts
 
--- src/lib.rt:21:15
 cast-buf : tie.Need-cast-buf
 cast-buf c = search needs
 
--- src/lib.rt:21:5
 slice-write-buf : tie.Need-slice-write-buf
 slice-write-buf c = search needs
 
--- src/lib.rt:22:19
 cast-buf-2 : tie.Need-cast-buf-2
 cast-buf-2 c = search needs
 
--- src/lib.rt:22:9
 add-buf : tie.Need-add-buf
 add-buf c = search needs
 
--- src/lib.rt:22:5
 slice-write-buf-2 : tie.Need-slice-write-buf-2
 slice-write-buf-2 c = search needs
 
--- src/lib.rt:17:1
 same-length : tie.Need-same-length
 same-length c = search needs
 
--- src/lib.rt:17:1
 returns : tie.Need-returns
 unfolding be16
 returns c = set-twice-pasted (c .args .buf .now) (c .args .at) (c .args .n / 256 % 256) (c .args .n % 256) (c .pre)

@@ -1,6 +1,6 @@
 -- `reader::begin_packet` meets its contract: total stands in the first two raw bytes.
 -- Assumes nothing.
-use mathlib.Core.Path.{_≡_, sym, ap, ap₂, _∙_}
+use mathlib.Core.Path.{_≡_, sym, ap₂, _∙_}
 use mathlib.Core.List.{List}
 use Prim.Native.Nat.{ℕ, _+_, _*_}
 use native.Mathlib.Omega.{arith}
@@ -11,69 +11,51 @@ use Rattle.reader.proofs.Laws.{begin-short, begin-small, begin-packet}
 use borrow.Author.Needs.{needs}
 use Rattle.reader.proofs.begin_packet.Statement.{statement}
 use Rattle.reader.proofs.begin_packet.Tie as tie
-use Rattle.reader.proofs.begin_packet.Reads as reads
-use Rattle.reader.proofs.begin_packet.Lts as lts
-use Rattle.reader.proofs.take_bytes.Reads as take-bytes-reads
-use Rattle.laws.proofs.wide.Reads as wide-reads
 
--- src/lib.rt:172:9
 returns : tie.Need-returns
 returns c =
     let a = c .before .before .before .args in
     sym (begin-short (a .raw .now) (a .p .now) (omega arith))
 
--- src/lib.rt:177:22
 shared-slice-read-wide : tie.Need-shared-slice-read-wide
 shared-slice-read-wide c = search needs
 
--- src/lib.rt:177:17
 wide-requires : tie.Need-wide-requires
 wide-requires c κs = search needs
 
--- src/lib.rt:177:17
 mul-total : tie.Need-mul-total
 mul-total c = search needs
 
--- src/lib.rt:177:43
 shared-slice-read-wide-2 : tie.Need-shared-slice-read-wide-2
 shared-slice-read-wide-2 c = search needs
 
--- src/lib.rt:177:38
 wide-requires-2 : tie.Need-wide-requires-2
 wide-requires-2 c κs = search needs
 
--- src/lib.rt:177:17
 add-total : tie.Need-add-total
 add-total c = search needs
 
--- src/lib.rt:179:9
 returns-2 : tie.Need-returns-2
 unfolding ofBe16
 returns-2 c =
     let a = c .before .before .before .before .before .before .before .before .args in
     sym (begin-small (a .raw .now) (a .p .now) (omega arith) (omega arith))
 
--- src/lib.rt:184:29
 sub-take-bytes : tie.Need-sub-take-bytes
 sub-take-bytes c = search needs
 
--- src/lib.rt:184:29
 part-take-bytes-start : tie.Need-part-take-bytes-start
 part-take-bytes-start c = search needs
 
--- src/lib.rt:184:29
 part-take-bytes-end : tie.Need-part-take-bytes-end
 part-take-bytes-end c = search needs
 
--- src/lib.rt:184:5
 take-bytes-requires : tie.Need-take-bytes-requires
 take-bytes-requires c κs = search needs
 
--- src/lib.rt:168:1
 same-length : tie.Need-same-length
 same-length c = search needs
 
--- src/lib.rt:168:1
 returns-3 : tie.Need-returns-3
 unfolding ofBe16
 returns-3 c =

@@ -4,24 +4,18 @@ use Rattle.reader.proofs.Laws.{marked-both, marked-not}
 use borrow.Author.Needs.{needs}
 use Rattle.reader.proofs.begins.Statement.{statement}
 use Rattle.reader.proofs.begins.Tie as tie
-use Rattle.reader.proofs.begins.Reads as reads
-use Rattle.reader.proofs.begins.Lts as lts
 
--- src/lib.rt:250:8
 shared-slice-read-if1 : tie.Need-shared-slice-read-if1
 shared-slice-read-if1 c = search needs
 
--- src/lib.rt:251:16
 shared-slice-read-result : tie.Need-shared-slice-read-result
 shared-slice-read-result c = search needs
 
--- src/lib.rt:251:9
 returns : tie.Need-returns
 returns c =
     let a = c .before .before .before .args in
     marked-both (a .a) (a .b) (a .line .now) (c .before .if1 .taken)
 
--- src/lib.rt:246:1
 returns-2 : tie.Need-returns-2
 returns-2 c =
     let a = c .before .before .args in

@@ -1,6 +1,6 @@
 -- `reader::complete` meets its contract: the CRC is compared before a byte is written.
 -- Assumes nothing.
-use mathlib.Core.Path.{_≡_, sym, ap, _∙_}
+use mathlib.Core.Path.{sym, ap, _∙_}
 use mathlib.Core.List.{List}
 use Prim.Native.Nat.{ℕ, _-_}
 use Rattle.reader.specs.declared.Reader.the-variants.{Idle}
@@ -9,43 +9,30 @@ use Rattle.reader.proofs.Laws.{completed-wrong, completed-right}
 use borrow.Author.Needs.{needs}
 use Rattle.reader.proofs.complete.Statement.{statement}
 use Rattle.reader.proofs.complete.Tie as tie
-use Rattle.reader.proofs.complete.Reads as reads
-use Rattle.reader.proofs.complete.Lts as lts
-use Rattle.reader.proofs.crc_came.Reads as crc-came-reads
-use Rattle.reader.proofs.crc_due.Reads as crc-due-reads
-use Rattle.reader.proofs.fill.Reads as fill-reads
 
--- src/lib.rt:95:9
 crc-came-requires : tie.Need-crc-came-requires
 crc-came-requires c κs = search needs
 
--- src/lib.rt:96:9
 crc-due-requires : tie.Need-crc-due-requires
 crc-due-requires c κs = search needs
 
--- src/lib.rt:98:9
 same-length : tie.Need-same-length
 same-length c = search needs
 
--- src/lib.rt:98:9
 returns : tie.Need-returns
 returns c =
     let a = c .before .before .before .before .before .before .args in
     sym (completed-wrong (a .total) (a .come) (a .first) (a .x .now) (a .p .now) (λ e. c .if1 .taken (c .before .before .before .crc-came .ensures ∙ e ∙ sym (c .before .crc-due .ensures))))
 
--- src/lib.rt:103:5
 fill-requires : tie.Need-fill-requires
 fill-requires c κs = search needs
 
--- src/lib.rt:105:32
 sub-t17 : tie.Need-sub-t17
 sub-t17 c = search needs
 
--- src/lib.rt:91:1
 same-length-2 : tie.Need-same-length-2
 same-length-2 c = search needs
 
--- src/lib.rt:91:1
 returns-2 : tie.Need-returns-2
 returns-2 c =
     let a = c .before .before .before .before .before .before .before .before .before .before .args in

@@ -6,36 +6,25 @@ use Rattle.laws.specs.Bytes.{ofBe16}
 use borrow.Author.Needs.{needs}
 use Rattle.reader.proofs.crc_came.Statement.{statement}
 use Rattle.reader.proofs.crc_came.Tie as tie
-use Rattle.reader.proofs.crc_came.Reads as reads
-use Rattle.reader.proofs.crc_came.Lts as lts
-use Rattle.reader.proofs.crc_first.Reads as crc-first-reads
-use Rattle.reader.proofs.crc_second.Reads as crc-second-reads
 
--- src/lib.rt:70:9
 crc-first-requires : tie.Need-crc-first-requires
 crc-first-requires c κs = search needs
 
--- src/lib.rt:71:9
 crc-second-requires : tie.Need-crc-second-requires
 crc-second-requires c κs = search needs
 
--- src/lib.rt:72:6
 cast-result : tie.Need-cast-result
 cast-result c = search needs
 
--- src/lib.rt:72:5
 mul-result : tie.Need-mul-result
 mul-result c = search needs
 
--- src/lib.rt:72:28
 cast-result-2 : tie.Need-cast-result-2
 cast-result-2 c = search needs
 
--- src/lib.rt:72:5
 add-result : tie.Need-add-result
 add-result c = search needs
 
--- src/lib.rt:66:1
 returns : tie.Need-returns
 unfolding ofBe16
 returns c = ap₂ (λ (h l : ℕ). h * 256 + l) (c .before .crc-first .ensures) (c .crc-second .ensures)

@@ -11,43 +11,31 @@ use Rattle.reader.proofs.Laws.{due-both, filled-none}
 use borrow.Author.Needs.{needs}
 use Rattle.reader.proofs.crc_due.Statement.{statement}
 use Rattle.reader.proofs.crc_due.Tie as tie
-use Rattle.reader.proofs.crc_due.Reads as reads
-use Rattle.reader.proofs.crc_due.Lts as lts
-use Rattle.crc.proofs.continued.Reads as continued-reads
 
--- src/lib.rt:80:13
 sub-b : tie.Need-sub-b
 sub-b c = search needs
 
--- src/lib.rt:82:17
 sub-m : tie.Need-sub-m
 sub-m c = search needs
 
--- src/lib.rt:83:35
 slice-aggregate-continued : tie.Need-slice-aggregate-continued
 slice-aggregate-continued c = simp length-take (omega arith)
 
--- src/lib.rt:83:13
 continued-requires : tie.Need-continued-requires
 continued-requires c κs = search needs
 
--- src/lib.rt:84:27
 slice-aggregate-continued-2 : tie.Need-slice-aggregate-continued-2
 slice-aggregate-continued-2 c = simp length-take (omega arith)
 
--- src/lib.rt:84:9
 continued-requires-2 : tie.Need-continued-requires-2
 continued-requires-2 c κs = search needs
 
--- src/lib.rt:86:27
 slice-aggregate-continued-3 : tie.Need-slice-aggregate-continued-3
 slice-aggregate-continued-3 c = simp length-take (omega arith)
 
--- src/lib.rt:86:9
 continued-requires-3 : tie.Need-continued-requires-3
 continued-requires-3 c κs = search needs
 
--- src/lib.rt:76:1
 returns : tie.Need-returns
 returns c =
     let a = c .before .before .before .before .before .before .before .args in
@@ -57,7 +45,6 @@ returns c =
     ∙ sym (onward-join 0 (take (a .come) (a .p .now)) (take m (a .x .now)))
     ∙ ap crcOf (sym (due-both (a .total) (a .come) (a .x .now) (a .p .now) (omega arith) (omega arith) (omega arith)))
 
--- src/lib.rt:76:1
 returns-2 : tie.Need-returns-2
 returns-2 c =
     let a = c .before .before .before .before .before .args in

@@ -9,19 +9,13 @@ use Rattle.reader.proofs.Laws.{crc-in-frame, crc-in-record}
 use borrow.Author.Needs.{needs}
 use Rattle.reader.proofs.crc_first.Statement.{statement}
 use Rattle.reader.proofs.crc_first.Tie as tie
-use Rattle.reader.proofs.crc_first.Reads as reads
-use Rattle.reader.proofs.crc_first.Lts as lts
-use Rattle.laws.proofs.byte_at.Reads as byte-at-reads
 
--- src/lib.rt:44:13
 sub-b : tie.Need-sub-b
 sub-b c = search needs
 
--- src/lib.rt:46:9
 byte-at-requires : tie.Need-byte-at-requires
 byte-at-requires c κs = search needs
 
--- src/lib.rt:40:1
 returns : tie.Need-returns
 returns c =
     let a = c .before .before .before .args in
@@ -29,7 +23,6 @@ returns c =
     ∙ ap (λ (i : ℕ). getD (a .x .now) i 0) (sym (add-zero _))
     ∙ sym (crc-in-frame (a .total) (a .come) (a .first) (a .x .now) 0 (c .before .if1 .taken))
 
--- src/lib.rt:40:1
 returns-2 : tie.Need-returns-2
 returns-2 c =
     let a = c .before .before .args in

@@ -8,33 +8,24 @@ use Rattle.reader.proofs.Laws.{crc-in-frame, crc-in-record}
 use borrow.Author.Needs.{needs}
 use Rattle.reader.proofs.crc_second.Statement.{statement}
 use Rattle.reader.proofs.crc_second.Tie as tie
-use Rattle.reader.proofs.crc_second.Reads as reads
-use Rattle.reader.proofs.crc_second.Lts as lts
-use Rattle.laws.proofs.byte_at.Reads as byte-at-reads
 
--- src/lib.rt:57:13
 sub-b : tie.Need-sub-b
 sub-b c = search needs
 
--- src/lib.rt:59:20
 add-byte-at : tie.Need-add-byte-at
 add-byte-at c = search needs
 
--- src/lib.rt:59:9
 byte-at-requires : tie.Need-byte-at-requires
 byte-at-requires c κs = search needs
 
--- src/lib.rt:61:9
 byte-at-requires-2 : tie.Need-byte-at-requires-2
 byte-at-requires-2 c κs = search needs
 
--- src/lib.rt:53:1
 returns : tie.Need-returns
 returns c =
     let a = c .before .before .before .args in
     c .byte-at .ensures ∙ sym (crc-in-frame (a .total) (a .come) (a .first) (a .x .now) 1 (c .before .if1 .taken))
 
--- src/lib.rt:53:1
 returns-2 : tie.Need-returns-2
 returns-2 c =
     let a = c .before .before .before .args in

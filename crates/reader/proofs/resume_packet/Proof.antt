@@ -9,26 +9,19 @@ use Rattle.reader.proofs.Laws.{possible-small, possible-large, possible
 use borrow.Author.Needs.{needs}
 use Rattle.reader.proofs.resume_packet.Statement.{statement}
 use Rattle.reader.proofs.resume_packet.Tie as tie
-use Rattle.reader.proofs.resume_packet.Reads as reads
-use Rattle.reader.proofs.resume_packet.Lts as lts
-use Rattle.reader.proofs.take_bytes.Reads as take-bytes-reads
 
--- src/lib.rt:191:24
 enum-known-reader : tie.Need-enum-known-reader
 enum-known-reader c = search needs
 
--- src/lib.rt:193:37
 enum-told : tie.Need-enum-told
 enum-told c = search needs
 
--- src/lib.rt:192:9
 returns : tie.Need-returns
 returns c =
     let a = c .before .before .before .before .args in
     let e : a .reader ≡ Idle = c .enum-told .given .1 in
     ap (λ (r : Reader). keeping 5 r (a .p .now)) e ∙ sym (resume-idle (a .raw .now) (a .p .now)) ∙ ap (λ (r : Reader). resume r (a .raw .now) (a .p .now)) (sym e)
 
--- src/lib.rt:198:9
 returns-2 : tie.Need-returns-2
 returns-2 c =
     let a = c .before .before .before .before .before .before .args in
@@ -36,7 +29,6 @@ returns-2 c =
     sym (resume-impossible (g .0 .0) (g .0 .1 .0) (g .0 .1 .1 .0) (a .raw .now) (a .p .now) (possible-small (g .0 .0) (g .0 .1 .0) (omega arith)))
     ∙ ap (λ (r : Reader). resume r (a .raw .now) (a .p .now)) (sym (g .1))
 
--- src/lib.rt:204:9
 returns-3 : tie.Need-returns-3
 returns-3 c =
     let a = c .before .before .before .before .before .before .before .args in
@@ -44,7 +36,6 @@ returns-3 c =
     sym (resume-impossible (g .0 .0) (g .0 .1 .0) (g .0 .1 .1 .0) (a .raw .now) (a .p .now) (possible-large (g .0 .0) (g .0 .1 .0) (omega arith)))
     ∙ ap (λ (r : Reader). resume r (a .raw .now) (a .p .now)) (sym (g .1))
 
--- src/lib.rt:210:9
 returns-4 : tie.Need-returns-4
 returns-4 c =
     let a = c .before .before .before .before .before .before .before .before .args in
@@ -52,15 +43,12 @@ returns-4 c =
     sym (resume-impossible (g .0 .0) (g .0 .1 .0) (g .0 .1 .1 .0) (a .raw .now) (a .p .now) (possible-past (g .0 .0) (g .0 .1 .0) (omega arith)))
     ∙ ap (λ (r : Reader). resume r (a .raw .now) (a .p .now)) (sym (g .1))
 
--- src/lib.rt:215:5
 take-bytes-requires : tie.Need-take-bytes-requires
 take-bytes-requires c κs = search needs
 
--- src/lib.rt:188:1
 same-length : tie.Need-same-length
 same-length c = search needs
 
--- src/lib.rt:188:1
 returns-5 : tie.Need-returns-5
 returns-5 c =
     let a = c .before .before .before .before .before .before .before .before .before .before .before .before .args in

@@ -1,6 +1,6 @@
 -- `sender::body_end` meets its contract: the last frame carries the rest of the body, and another ends where the next begins.
 -- Assumes nothing.
-use mathlib.Core.Path.{_≡_, sym, ap, _∙_}
+use mathlib.Core.Path.{sym, ap, _∙_}
 use Prim.Native.Nat.{ℕ, _-_, _+_}
 use native.Mathlib.Omega.{arith}
 use Rattle.sender.proofs.Count.{start-is}
@@ -8,32 +8,23 @@ use Rattle.sender.proofs.Laws.{to-last, to-next}
 use borrow.Author.Needs.{needs}
 use Rattle.sender.proofs.body_end.Statement.{statement}
 use Rattle.sender.proofs.body_end.Tie as tie
-use Rattle.sender.proofs.body_end.Reads as reads
-use Rattle.sender.proofs.body_end.Lts as lts
-use Rattle.sender.proofs.start_of.Reads as start-of-reads
 
--- src/lib.rt:58:8
 add-if1 : tie.Need-add-if1
 add-if1 c = search needs
 
--- src/lib.rt:59:9
 returns : tie.Need-returns
 returns c =
     let a = c .before .args in (sym (to-last (a .b) (a .k) (c .if1 .taken ∙ c .before .pre .2)), omega arith, omega (arith, start-is (a .b) (a .k)))
 
--- src/lib.rt:61:28
 add-start-of : tie.Need-add-start-of
 add-start-of c = search needs
 
--- src/lib.rt:61:9
 start-of-requires : tie.Need-start-of-requires
 start-of-requires c κs = search needs
 
--- src/lib.rt:62:5
 sub-result : tie.Need-sub-result
 sub-result c = omega (arith, start-is (c .before .before .args .b) (c .before .before .args .k + 1))
 
--- src/lib.rt:54:1
 returns-2 : tie.Need-returns-2
 returns-2 c =
     let a = c .before .before .args in (

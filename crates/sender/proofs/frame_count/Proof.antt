@@ -6,30 +6,22 @@ use Rattle.sender.proofs.Count.{count-one, count-two, count-many}
 use borrow.Author.Needs.{needs}
 use Rattle.sender.proofs.frame_count.Statement.{statement}
 use Rattle.sender.proofs.frame_count.Tie as tie
-use Rattle.sender.proofs.frame_count.Reads as reads
-use Rattle.sender.proofs.frame_count.Lts as lts
 
--- src/lib.rt:21:9
 returns : tie.Need-returns
 returns c = (sym (count-one (c .before .args .b) (c .if1 .taken)), omega arith)
 
--- src/lib.rt:24:9
 returns-2 : tie.Need-returns-2
 returns-2 c = (sym (count-two (c .before .before .args .b) (omega arith) (omega arith)), omega arith)
 
--- src/lib.rt:26:10
 sub-result : tie.Need-sub-result
 sub-result c = search needs
 
--- src/lib.rt:26:10
 add-result : tie.Need-add-result
 add-result c = search needs
 
--- src/lib.rt:26:5
 add-result-2 : tie.Need-add-result-2
 add-result-2 c = search needs
 
--- src/lib.rt:16:1
 returns-3 : tie.Need-returns-3
 returns-3 c = (sym (count-many (c .before .before .args .b) (omega arith)), omega arith)
 

@@ -1,6 +1,6 @@
 -- `sender::put_head` meets its contract: total is written in frame 0 alone.
 -- Assumes nothing.
-use mathlib.Core.Path.{_≡_, sym, ap, _∙_}
+use mathlib.Core.Path.{sym, ap, _∙_}
 use mathlib.Core.List.{List}
 use Prim.Native.Nat.{ℕ, _+_}
 use lib.ListN.{length}
@@ -10,30 +10,22 @@ use Rattle.sender.proofs.Laws.{head-first, head-later, be16-length}
 use borrow.Author.Needs.{needs}
 use Rattle.sender.proofs.put_head.Statement.{statement}
 use Rattle.sender.proofs.put_head.Tie as tie
-use Rattle.sender.proofs.put_head.Reads as reads
-use Rattle.sender.proofs.put_head.Lts as lts
-use Rattle.laws.proofs.put_be16.Reads as put-be16-reads
 
--- src/lib.rt:59:32
 add-put-be16 : tie.Need-add-put-be16
 add-put-be16 c = search needs
 
--- src/lib.rt:59:9
 put-be16-requires : tie.Need-put-be16-requires
 put-be16-requires c κs = search needs
 
--- src/lib.rt:60:9
 same-length : tie.Need-same-length
 same-length c = search needs
 
--- src/lib.rt:60:9
 returns : tie.Need-returns
 returns c =
     let a = c .before .before .before .before .before .before .args in
     let e = head-first (a .b) (a .k) (c .before .before .before .before .if1 .taken) in
     (sym (be16-length (a .b + 2)) ∙ ap length (sym e), c .before .before .put-be16 .ensures ∙ ap (λ (l : List ℕ). pasted (a .raw .now) 0 l) (sym e))
 
--- src/lib.rt:54:1
 returns-2 : tie.Need-returns-2
 returns-2 c =
     let a = c .before .before .args in

@@ -1,6 +1,6 @@
 -- `sender::put_marker` meets its contract: two stores one after the other are the marker written.
 -- Assumes nothing.
-use mathlib.Core.Path.{_≡_, sym, ap, _∙_}
+use mathlib.Core.Path.{sym, ap, _∙_}
 use mathlib.Core.List.{List}
 use Prim.Native.Nat.{ℕ}
 use native.Mathlib.Omega.{arith}
@@ -10,40 +10,30 @@ use Rattle.sender.proofs.Laws.{marker-first, marker-later}
 use borrow.Author.Needs.{needs}
 use Rattle.sender.proofs.put_marker.Statement.{statement}
 use Rattle.sender.proofs.put_marker.Tie as tie
-use Rattle.sender.proofs.put_marker.Reads as reads
-use Rattle.sender.proofs.put_marker.Lts as lts
 
--- src/lib.rt:120:9
 slice-write-out : tie.Need-slice-write-out
 slice-write-out c = search needs
 
--- src/lib.rt:121:9
 slice-write-out-2 : tie.Need-slice-write-out-2
 slice-write-out-2 c = search needs
 
--- src/lib.rt:122:9
 same-length : tie.Need-same-length
 same-length c = search needs
 
--- src/lib.rt:122:9
 returns : tie.Need-returns
 returns c =
     let a = c .before .args in
     set-twice-pasted (a .out .now) 0 0x06 0x09 (omega arith) ∙ ap (λ (l : List ℕ). pasted (a .out .now) 0 l) (sym (marker-first (a .k) (c .if1 .taken)))
 
--- src/lib.rt:124:5
 slice-write-out-3 : tie.Need-slice-write-out-3
 slice-write-out-3 c = search needs
 
--- src/lib.rt:125:5
 slice-write-out-4 : tie.Need-slice-write-out-4
 slice-write-out-4 c = search needs
 
--- src/lib.rt:115:1
 same-length-2 : tie.Need-same-length-2
 same-length-2 c = search needs
 
--- src/lib.rt:115:1
 returns-2 : tie.Need-returns-2
 returns-2 c =
     let a = c .before .args in

@@ -10,52 +10,37 @@ use Rattle.sender.proofs.Laws.{middle-is}
 use borrow.Author.Needs.{needs}
 use Rattle.sender.proofs.put_middle.Statement.{statement}
 use Rattle.sender.proofs.put_middle.Tie as tie
-use Rattle.sender.proofs.put_middle.Reads as reads
-use Rattle.sender.proofs.put_middle.Lts as lts
-use Rattle.laws.proofs.put.Reads as put-reads
-use Rattle.sender.proofs.body_end.Reads as body-end-reads
-use Rattle.sender.proofs.body_start.Reads as body-start-reads
 
--- src/lib.rt:83:9
 body-start-requires : tie.Need-body-start-requires
 body-start-requires c κs = search needs
 
--- src/lib.rt:84:9
 body-end-requires : tie.Need-body-end-requires
 body-end-requires c κs = search needs
 
--- src/lib.rt:85:24
 sub-put : tie.Need-sub-put
 sub-put c = search needs
 
--- src/lib.rt:85:24
 part-put-start : tie.Need-part-put-start
 part-put-start c = search needs
 
--- src/lib.rt:85:24
 part-put-end : tie.Need-part-put-end
 part-put-end c = search needs
 
--- src/lib.rt:85:5
 put-requires : tie.Need-put-requires
 put-requires c κs =
     let a = c .before .before .before .before .before .before .args in
     let e = middle-is (a .body .now) (a .k) (c .before .before .before .body-start .result) (c .before .before .body-end .result) (c .before .before .before .body-start .ensures) (c .before .before .body-end .ensures .0) in
     omega (arith, ap length e)
 
--- src/lib.rt:86:11
 sub-result : tie.Need-sub-result
 sub-result c = search needs
 
--- src/lib.rt:86:5
 add-result : tie.Need-add-result
 add-result c = search needs
 
--- src/lib.rt:78:1
 same-length : tie.Need-same-length
 same-length c = search needs
 
--- src/lib.rt:78:1
 returns : tie.Need-returns
 returns c =
     let a = c .before .before .before .before .before .before .before .before .before .args in

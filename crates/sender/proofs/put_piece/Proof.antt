@@ -1,7 +1,6 @@
 -- `sender::put_piece` meets its contract: its three parts, one after the other, are the frame's raw bytes.
 -- Assumes nothing.
-use mathlib.Core.Path.{_≡_}
-use Prim.Native.Nat.{ℕ, _<_}
+use Prim.Native.Nat.{_<_}
 use native.Mathlib.Omega.{arith}
 use lib.ListN.{length}
 use Rattle.sender.specs.Sender.{frameCount}
@@ -9,17 +8,10 @@ use Rattle.sender.proofs.Laws.{parts-length, parts-pasted, piece-length
 use borrow.Author.Needs.{needs}
 use Rattle.sender.proofs.put_piece.Statement.{statement}
 use Rattle.sender.proofs.put_piece.Tie as tie
-use Rattle.sender.proofs.put_piece.Reads as reads
-use Rattle.sender.proofs.put_piece.Lts as lts
-use Rattle.sender.proofs.put_head.Reads as put-head-reads
-use Rattle.sender.proofs.put_middle.Reads as put-middle-reads
-use Rattle.sender.proofs.put_tail.Reads as put-tail-reads
 
--- src/lib.rt:107:9
 put-head-requires : tie.Need-put-head-requires
 put-head-requires c κs = search needs
 
--- src/lib.rt:108:9
 put-middle-requires : tie.Need-put-middle-requires
 put-middle-requires c κs =
     let a = c .before .before .before .before .before .before .before .args in
@@ -29,7 +21,6 @@ put-middle-requires c κs =
     let sum = parts-length (a .body .now) (a .k) in
     (omega arith, omega arith, p .2, omega arith)
 
--- src/lib.rt:109:5
 put-tail-requires : tie.Need-put-tail-requires
 put-tail-requires c κs =
     let a = c .before .before .before .before .before .before .before .before .before .before .before .args in
@@ -39,11 +30,9 @@ put-tail-requires c κs =
     let sum = parts-length (a .body .now) (a .k) in
     (omega arith, p .2, omega arith)
 
--- src/lib.rt:103:1
 same-length : tie.Need-same-length
 same-length c = search needs
 
--- src/lib.rt:103:1
 returns : tie.Need-returns
 returns c =
     let a = c .before .before .before .before .before .before .before .before .before .before .before .before .before .before .args in

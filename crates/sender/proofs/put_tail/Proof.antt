@@ -1,6 +1,6 @@
 -- `sender::put_tail` meets its contract: the CRC is written in the last frame alone.
 -- Assumes nothing.
-use mathlib.Core.Path.{_≡_, sym, ap, _∙_}
+use mathlib.Core.Path.{sym, ap, _∙_}
 use mathlib.Core.List.{List}
 use Prim.Native.Nat.{ℕ, _+_}
 use native.Mathlib.Nat.{add-zero}
@@ -13,39 +13,28 @@ use Rattle.sender.proofs.Laws.{tail-last, tail-other, be16-length}
 use borrow.Author.Needs.{needs}
 use Rattle.sender.proofs.put_tail.Statement.{statement}
 use Rattle.sender.proofs.put_tail.Tie as tie
-use Rattle.sender.proofs.put_tail.Reads as reads
-use Rattle.sender.proofs.put_tail.Lts as lts
-use Rattle.crc.proofs.continued.Reads as continued-reads
-use Rattle.laws.proofs.put_be16.Reads as put-be16-reads
 
--- src/lib.rt:94:8
 add-if1 : tie.Need-add-if1
 add-if1 c = search needs
 
--- src/lib.rt:95:13
 continued-requires : tie.Need-continued-requires
 continued-requires c κs = search needs
 
--- src/lib.rt:96:33
 cast-put-be16 : tie.Need-cast-put-be16
 cast-put-be16 c = search needs
 
--- src/lib.rt:96:9
 put-be16-requires : tie.Need-put-be16-requires
 put-be16-requires c κs =
     let a = c .before .before .before .before .before .args in
     let e = tail-last (a .body .now) (a .k) (c .before .before .if1 .taken ∙ c .before .before .before .before .before .pre .1) in
     omega (arith, ap length e, be16-length (crcOf (a .body .now)))
 
--- src/lib.rt:97:16
 add-result : tie.Need-add-result
 add-result c = search needs
 
--- src/lib.rt:97:9
 same-length : tie.Need-same-length
 same-length c = search needs
 
--- src/lib.rt:97:9
 returns : tie.Need-returns
 returns c =
     let a = c .before .before .before .before .before .before .before .before .args in
@@ -54,7 +43,6 @@ returns c =
       c .before .before .put-be16 .ensures ∙ ap (λ (n : ℕ). pasted (a .raw .now) (a .at) (be16 n)) (c .before .before .before .before .continued .ensures) ∙ ap (λ (l : List ℕ). pasted (a .raw .now) (a .at) l) (sym e),
     )
 
--- src/lib.rt:90:1
 returns-2 : tie.Need-returns-2
 returns-2 c =
     let a = c .before .before .before .args in

@@ -1,6 +1,5 @@
 -- `sender::put_text` meets its contract: the text stands at the start of the part after the marker.
 -- Assumes nothing.
-use mathlib.Core.Path.{_≡_}
 use native.Mathlib.Omega.{arith}
 use Rattle.base64.specs.Base64.{encode}
 use Rattle.laws.proofs.Lists.{part-pasted}
@@ -8,31 +7,22 @@ use Rattle.sender.proofs.Laws.{text-room}
 use borrow.Author.Needs.{needs}
 use Rattle.sender.proofs.put_text.Statement.{statement}
 use Rattle.sender.proofs.put_text.Tie as tie
-use Rattle.sender.proofs.put_text.Reads as reads
-use Rattle.sender.proofs.put_text.Lts as lts
-use Rattle.base64.proofs.encode.Reads as encode-reads
 
--- src/lib.rt:133:25
 sub-encode : tie.Need-sub-encode
 sub-encode c = search needs
 
--- src/lib.rt:133:25
 part-encode-start : tie.Need-part-encode-start
 part-encode-start c = search needs
 
--- src/lib.rt:133:25
 part-encode-end : tie.Need-part-encode-end
 part-encode-end c = search needs
 
--- src/lib.rt:133:5
 encode-requires : tie.Need-encode-requires
 encode-requires c κs = search needs
 
--- src/lib.rt:129:1
 same-length : tie.Need-same-length
 same-length c = search needs
 
--- src/lib.rt:129:1
 returns : tie.Need-returns
 returns c =
     let a = c .before .before .before .before .before .before .args in

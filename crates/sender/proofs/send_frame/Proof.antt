@@ -1,6 +1,6 @@
 -- `sender::send_frame` meets its contract: its tests are those of the definition, in the order of the refusals.
 -- Assumes nothing.
-use mathlib.Core.Path.{_≡_, sym, ap, ap₂, _∙_}
+use mathlib.Core.Path.{sym, _∙_}
 use mathlib.Core.List.{List}
 use Prim.Native.Nat.{ℕ, _≤_, _<_}
 use native.Mathlib.Omega.{arith}
@@ -10,49 +10,37 @@ use Rattle.sender.proofs.Laws.{send-unsendable, sendable-small, sendabl
 use borrow.Author.Needs.{needs}
 use Rattle.sender.proofs.send_frame.Statement.{statement}
 use Rattle.sender.proofs.send_frame.Tie as tie
-use Rattle.sender.proofs.send_frame.Reads as reads
-use Rattle.sender.proofs.send_frame.Lts as lts
-use Rattle.sender.proofs.frame_count.Reads as frame-count-reads
-use Rattle.sender.proofs.write_frame.Reads as write-frame-reads
 
--- src/lib.rt:164:9
 returns : tie.Need-returns
 returns c =
     let a = c .before .before .before .args in
     sym (send-unsendable (a .body .now) (a .k) (a .out .now) (sendable-small (length (a .body .now)) (length (a .out .now)) (omega arith)))
 
--- src/lib.rt:167:9
 returns-2 : tie.Need-returns-2
 returns-2 c =
     let a = c .before .before .before .before .args in
     sym (send-unsendable (a .body .now) (a .k) (a .out .now) (sendable-short (length (a .body .now)) (length (a .out .now)) (omega arith)))
 
--- src/lib.rt:170:9
 returns-3 : tie.Need-returns-3
 returns-3 c =
     let a = c .before .before .before .before .before .args in
     sym (send-unsendable (a .body .now) (a .k) (a .out .now) (sendable-long (length (a .body .now)) (length (a .out .now)) (omega arith)))
 
--- src/lib.rt:172:9
 frame-count-requires : tie.Need-frame-count-requires
 frame-count-requires c κs = search needs
 
--- src/lib.rt:174:9
 returns-4 : tie.Need-returns-4
 returns-4 c =
     let a = c .before .before .before .before .before .before .before .args in
     let past : frameCount (length (a .body .now)) ≤ a .k = omega arith in
     sym (send-beyond (a .body .now) (a .k) (a .out .now) (sendable-is (length (a .body .now)) (length (a .out .now)) (omega arith) (omega arith) (omega arith)) past)
 
--- src/lib.rt:176:9
 write-frame-requires : tie.Need-write-frame-requires
 write-frame-requires c κs = search needs
 
--- src/lib.rt:159:1
 same-length : tie.Need-same-length
 same-length c = search needs
 
--- src/lib.rt:159:1
 returns-5 : tie.Need-returns-5
 returns-5 c =
     let a = c .before .before .before .before .before .before .before .before .before .before .before .args in

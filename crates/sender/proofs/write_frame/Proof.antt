@@ -2,7 +2,7 @@
 -- Assumes nothing.
 use mathlib.Core.Path.{_≡_, sym, ap, _∙_}
 use mathlib.Core.List.{List}
-use Prim.Native.Nat.{ℕ, _≤_}
+use Prim.Native.Nat.{ℕ}
 use native.Mathlib.Omega.{arith}
 use lib.ListN.{length, take, drop, replicate, length-take}
 use lib.Seq.{take-at}
@@ -14,36 +14,25 @@ use Rattle.sender.specs.Piece.{markerOf}
 use borrow.Author.Needs.{needs}
 use Rattle.sender.proofs.write_frame.Statement.{statement}
 use Rattle.sender.proofs.write_frame.Tie as tie
-use Rattle.sender.proofs.write_frame.Reads as reads
-use Rattle.sender.proofs.write_frame.Lts as lts
-use Rattle.sender.proofs.put_line.Reads as put-line-reads
-use Rattle.sender.proofs.put_piece.Reads as put-piece-reads
 
--- src/lib.rt:154:39
 slice-aggregate-put-piece : tie.Need-slice-aggregate-put-piece
 slice-aggregate-put-piece c = search needs
 
--- src/lib.rt:154:9
 put-piece-requires : tie.Need-put-piece-requires
 put-piece-requires c κs = search needs
 
--- src/lib.rt:155:17
 array-share-prefix-raw : tie.Need-array-share-prefix-raw
 array-share-prefix-raw c = search needs
 
--- src/lib.rt:155:17
 slice-aggregate-put-line : tie.Need-slice-aggregate-put-line
 slice-aggregate-put-line c = simp length-take (omega arith)
 
--- src/lib.rt:155:5
 put-line-requires : tie.Need-put-line-requires
 put-line-requires c κs = (simp length-take (omega arith), omega arith)
 
--- src/lib.rt:149:1
 same-length : tie.Need-same-length
 same-length c = search needs
 
--- src/lib.rt:149:1
 returns : tie.Need-returns
 unfolding frameOf
 returns c =
