@@ -1,2 +1,4 @@
 pub mod Read
 pub mod Write
+pub mod Put
+pub mod Within

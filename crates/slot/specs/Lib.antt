@@ -1,4 +1,5 @@
 pub mod Session
 pub mod Plan
 pub mod Act
+pub mod State
 pub mod History

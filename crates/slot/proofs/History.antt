@@ -1,0 +1,222 @@
+-- The demand on the memory, for any history of acts: the memory is always the first one with a slot's worth of bytes in the slot's place,
+-- and while a session is open these are the data written since its start and then 255s.
+-- Assumes nothing.
+use mathlib.Core.Path.{_≡_, refl, sym, ap, ap₂, _∙_}
+use mathlib.Core.Bool.{Bool, true, false, false≢true}
+use mathlib.Core.List.{List, [], _∷_, _++_, append-assoc, append-nil}
+use Prim.Native.Nat.{ℕ, _+_, _-_, _≤_, _<_}
+use native.Mathlib.Nat.{add-zero, zero-add}
+use native.Mathlib.Omega.{arith}
+use lib.ListN.{length, take, drop, replicate, length-append, length-take, length-drop, length-replicate, take-append-drop, replicate-append-replicate, drop-of-length-le}
+use lib.Seq.{take-at, drop-at, take-add, drop-drop, length-take-le, take-append-add, take-append-le, drop-append-add, drop-append-le}
+use Rattle.laws.specs.Bytes.{pasted}
+use Rattle.laws.proofs.Lists.{pasted-is, pasted-start, pasted-length, pasted-take, pasted-drop}
+use Rattle.slot.specs.declared.Slot.{Slot}
+use Rattle.slot.specs.declared.Session.{Session}
+use Rattle.slot.specs.Session.{regionOk, sessionOk, closed}
+use Rattle.slot.specs.Act.{State, Act, keep, append, start, erase, end, blank, grown, done}
+use Rattle.slot.specs.History.{Fit, History, begun, went, written, slotIn, Held, Demand, CutFrom, unbroken, Unbroken}
+use Rattle.slot.proofs.Laws.{region-bounds, session-bounds, session-is, session-closed}
+
+-- what is left of equal bytes after some of them
+drop-replicate : (k n v : ℕ) → k ≤ n → drop k (replicate n v) ≡ replicate (n - k) v
+drop-replicate k n v h =
+    let e : k + (n - k) ≡ n = omega arith in
+    ap (λ (i : ℕ). drop k (replicate i v)) (sym e)
+    ∙ ap (λ (l : List ℕ). drop k l) (sym (replicate-append-replicate k (n - k) v))
+    ∙ drop-at (replicate k v) (replicate (n - k) v) k (length-replicate k v)
+
+-- writing within a part of a list that was written itself
+pasted-within : (f : List ℕ) (a : ℕ) (t : List ℕ) (k : ℕ) (x : List ℕ) → a + length t ≤ length f → k + length x ≤ length t → pasted (pasted f a t) (a + k) x ≡ pasted f a (pasted t k x)
+pasted-within f a t k x room h =
+    let p = take a f in
+    let q = drop (a + length t) f in
+    let front : length p ≡ a = length-take-le a f (omega arith) in
+    let same : length (pasted t k x) ≡ length t = pasted-length t k x h in
+    ap₂ (λ (l : List ℕ) (i : ℕ). pasted l i x) (pasted-is f a t) (ap (λ (i : ℕ). i + k) (sym front))
+    ∙ inside p t q k x h
+    ∙ ap (λ (i : ℕ). p ++ (pasted t k x ++ drop (a + i) f)) (sym same)
+    ∙ sym (pasted-is f a (pasted t k x))
+  where
+    inside : (p t q : List ℕ) (k : ℕ) (x : List ℕ) → k + length x ≤ length t → pasted (p ++ (t ++ q)) (length p + k) x ≡ p ++ (pasted t k x ++ q)
+    inside p t q k x h =
+        let e : length p + k + length x ≡ length p + (k + length x) = omega arith in
+        rw (pasted-is (p ++ (t ++ q)) (length p + k) x, pasted-is t k x, e, take-append-add p (t ++ q) k, drop-append-add p (t ++ q) (k + length x), take-append-le k t q (omega arith), drop-append-le (k + length x) t q h)
+        (simp append-assoc)
+
+-- the same at the part's start
+pasted-at-start : (f : List ℕ) (a : ℕ) (t x : List ℕ) → a + length t ≤ length f → length x ≤ length t → pasted (pasted f a t) a x ≡ pasted f a (x ++ drop (length x) t)
+pasted-at-start f a t x room h =
+    ap (λ (i : ℕ). pasted (pasted f a t) i x) (sym (add-zero a))
+    ∙ pasted-within f a t 0 x room (omega arith)
+    ∙ ap (λ (l : List ℕ). pasted f a l) (pasted-start t x)
+
+-- the same over the whole part
+pasted-over : (f : List ℕ) (a : ℕ) (t x : List ℕ) → a + length t ≤ length f → length x ≡ length t → pasted (pasted f a t) a x ≡ pasted f a x
+pasted-over f a t x room h =
+    pasted-at-start f a t x room (omega arith)
+    ∙ ap (λ (l : List ℕ). pasted f a (x ++ l)) (drop-of-length-le t {i = length x} (omega arith))
+    ∙ ap (λ (l : List ℕ). pasted f a l) (append-nil x)
+
+-- a memory that is as another outside the slot is that other with its own slot's bytes in the slot's place
+pub placed : (slot : Slot) (f m : List ℕ) → slot .start + slot .size ≤ length f → length m ≡ length f → take (slot .start) m ≡ take (slot .start) f → drop (slot .start + slot .size) m ≡ drop (slot .start + slot .size) f → (length (slotIn slot m) ≡ slot .size) × (m ≡ pasted f (slot .start) (slotIn slot m))
+placed slot f m room size below beyond =
+    let a = slot .start in
+    let s = slot .size in
+    let t = slotIn slot m in
+    let n : length t ≡ s = length-take-le s (drop a m) (simp length-drop (omega arith)) in (
+      n,
+      sym (take-append-drop a m)
+          ∙ ap (λ (l : List ℕ). take a m ++ l) (sym (take-append-drop s (drop a m)))
+          ∙ ap₂ (λ (p q : List ℕ). p ++ (t ++ q)) below (drop-drop s a m ∙ beyond ∙ ap (λ (i : ℕ). drop (a + i) f) (sym n))
+          ∙ sym (pasted-is f a t),
+    )
+
+-- the demand of a state whose memory is the first one with these bytes in the slot's place
+pub held-by : (slot : Slot) (first : State) (acts : List Act) (st : State) (t : List ℕ) → slot .start + slot .size ≤ length (first .memory) → length t ≡ slot .size → st .memory ≡ pasted (first .memory) (slot .start) t → sessionOk slot (st .session) ≡ true → (st .session .running ≡ true → take (st .session .place) t ≡ written acts) → (st .session .running ≡ true → drop (st .session .place) t ≡ replicate (slot .size - st .session .place) 255) → Held slot first acts st
+held-by slot first acts st t room n e possible joined after =
+    let a = slot .start in
+    let s = slot .size in
+    let f = first .memory in
+    let front : length (take a f) ≡ a = length-take-le a f (omega arith) in
+    let apart : st .memory ≡ take a f ++ (t ++ drop (a + s) f) = e ∙ pasted-is f a t ∙ ap (λ (i : ℕ). take a f ++ (t ++ drop (a + i) f)) n in
+    let both : length (take a f ++ t) ≡ a + s = rw length-append (omega arith) in
+    let whole : slotIn slot (st .memory) ≡ t =
+    ap (λ (l : List ℕ). take s (drop a l)) apart
+    ∙ ap (λ (l : List ℕ). take s l) (drop-at (take a f) (t ++ drop (a + s) f) a front)
+    ∙ take-at t (drop (a + s) f) s n in
+    record {
+      below = ap (λ (l : List ℕ). take a l) apart ∙ take-at (take a f) (t ++ drop (a + s) f) a front;
+      beyond = ap (λ (l : List ℕ). drop (a + s) l) (apart ∙ sym (append-assoc (take a f) t (drop (a + s) f))) ∙ drop-at (take a f ++ t) (drop (a + s) f) (a + s) both;
+      size = ap length e ∙ pasted-length f a t (omega arith);
+      possible = possible;
+      joined = λ r. ap (λ (l : List ℕ). take (st .session .place) l) whole ∙ joined r;
+      blank-after = λ r. ap (λ (l : List ℕ). drop (st .session .place) l) whole ∙ after r;
+    }
+
+-- a closed first state is as demanded
+pub begun-held : (slot : Slot) (first : State) → first .session .running ≡ false → Held slot first [] first
+begun-held slot first e =
+    record {
+      below = refl;
+      beyond = refl;
+      size = refl;
+      possible = session-closed slot (first .session) e;
+      joined = λ r. absurd (false≢true (sym e ∙ r));
+      blank-after = λ r. absurd (false≢true (sym e ∙ r));
+    }
+
+-- a session that is closed demands nothing of the slot's bytes
+never : {A : Type 0} → false ≡ true → A
+never e = absurd (false≢true e)
+
+-- the slot made blank
+blanked : (slot : Slot) (f m : List ℕ) (t : List ℕ) → slot .start + slot .size ≤ length f → length t ≡ slot .size → m ≡ pasted f (slot .start) t → blank slot m ≡ pasted f (slot .start) (replicate (slot .size) 255)
+unfolding blank
+blanked slot f m t room n e =
+    let full : List ℕ = replicate (slot .size) 255 in
+    ap (λ (l : List ℕ). pasted l (slot .start) full) e
+    ∙ pasted-over f (slot .start) t full (omega arith) (length-replicate (slot .size) 255 ∙ sym n)
+
+-- equal bytes with x in their first places
+begun-with : (n : ℕ) (x : List ℕ) → length x ≤ n → length (x ++ drop (length x) (replicate n 255)) ≡ n
+begun-with n x h = rw (length-append, length-drop, length-replicate) (omega arith)
+
+-- 255s that follow a place still do so after data was put there
+still-blank : (s : ℕ) (t : List ℕ) (n : ℕ) (x : List ℕ) → length t ≡ s → n + length x ≤ length t → drop n t ≡ replicate (s - n) 255 → drop (n + length x) (pasted t n x) ≡ replicate (s - (n + length x)) 255
+still-blank s t n x full room e =
+    let less : s - n - length x ≡ s - (n + length x) = omega arith in
+    (rw add-zero at (pasted-drop t n x 0 room))
+    ∙ sym (drop-drop (length x) n t)
+    ∙ ap (λ (l : List ℕ). drop (length x) l) e
+    ∙ drop-replicate (length x) (s - n) 255 (omega arith)
+    ∙ ap (λ (i : ℕ). replicate i 255) less
+
+-- one act more: what was demanded before it holds after it
+pub step-held : (slot : Slot) (first : State) (acts : List Act) (st : State) (a : Act) → regionOk slot (length (first .memory)) ≡ true → Held slot first acts st → Fit slot (st .session) a → Held slot first (a ∷ acts) (done slot a st)
+unfolding Fit written done blank
+step-held slot first acts st keep region h fit =
+    record { below = h .below; beyond = h .beyond; size = h .size; possible = h .possible; joined = h .joined; blank-after = h .blank-after }
+step-held slot first acts st (append x) region h fit =
+    let r = region-bounds slot (length (first .memory)) region in
+    let b = session-bounds slot (st .session) (h .possible) (fit .0) in
+    let p = placed slot (first .memory) (st .memory) (r .inside) (h .size) (h .below) (h .beyond) in
+    let n = st .session .place in
+    let t = slotIn slot (st .memory) in
+    let room : n + length x ≤ length t = omega arith in
+    held-by slot first (append x ∷ acts) (done slot (append x) st) (pasted t n x) (r .inside)
+    (pasted-length t n x room ∙ p .0)
+    (ap (λ (m : List ℕ). pasted m (slot .start + n) x) (p .1) ∙ pasted-within (first .memory) (slot .start) t n x (omega arith) room)
+    (session-is slot (grown (st .session) (length x)) (b .some) (b .within) (omega arith) (omega arith))
+    (λ _. pasted-take t n x room ∙ ap (λ (l : List ℕ). l ++ x) (h .joined (fit .0)))
+    (λ _. still-blank (slot .size) t n x (p .0) room (h .blank-after (fit .0)))
+step-held slot first acts st (start l tagged tag x) region h fit =
+    let r = region-bounds slot (length (first .memory)) region in
+    let f = first .memory in
+    let p = placed slot f (st .memory) (r .inside) (h .size) (h .below) (h .beyond) in
+    let full : List ℕ = replicate (slot .size) 255 in
+    let n : length full ≡ slot .size = length-replicate (slot .size) 255 in
+    held-by slot first (start l tagged tag x ∷ acts) (done slot (start l tagged tag x) st) (x ++ drop (length x) full) (r .inside)
+    (begun-with (slot .size) x (omega arith))
+    (ap (λ (m : List ℕ). pasted m (slot .start) x) (blanked slot f (st .memory) (slotIn slot (st .memory)) (r .inside) (p .0) (p .1))
+    ∙ pasted-at-start f (slot .start) full x (omega arith) (omega arith))
+    (session-is slot (record { running = true; length = l; place = length x; tagged = tagged; tag = tag }) (omega arith) (fit .2) (fit .0) (fit .1))
+    (λ _. take-at x (drop (length x) full) (length x) refl)
+    (λ _. drop-at x (drop (length x) full) (length x) refl ∙ drop-replicate (length x) (slot .size) 255 (omega arith))
+step-held slot first acts st erase region h fit =
+    let r = region-bounds slot (length (first .memory)) region in
+    let p = placed slot (first .memory) (st .memory) (r .inside) (h .size) (h .below) (h .beyond) in
+    held-by slot first (erase ∷ acts) (done slot erase st) (replicate (slot .size) 255) (r .inside)
+    (length-replicate (slot .size) 255)
+    (blanked slot (first .memory) (st .memory) (slotIn slot (st .memory)) (r .inside) (p .0) (p .1))
+    (session-closed slot closed refl)
+    never
+    never
+step-held slot first acts st end region h fit =
+    record { below = h .below; beyond = h .beyond; size = h .size; possible = session-closed slot closed refl; joined = never; blank-after = never }
+
+-- "in any history": by its acts, one at a time
+pub demand : Demand
+demand slot first acts st region e history = all history
+  where
+    all : {acts : List Act} {st : State} → History slot first acts st → Held slot first acts st
+    all begun = begun-held slot first e
+    all (went {acts} {st} before a fit) = step-held slot first acts st a region (all before) fit
+
+-- chunks that were cut from one image at their places are, joined, its first bytes
+pub cut-joined : (image : List ℕ) (acts : List Act) → CutFrom image acts → written acts ≡ take (length (written acts)) image
+unfolding CutFrom written
+cut-joined image [] cut = refl
+cut-joined image (keep ∷ acts) cut = cut-joined image acts cut
+cut-joined image (append x ∷ acts) cut =
+    let w = written acts in
+    ap₂ (λ (a b : List ℕ). a ++ b) (cut-joined image acts (cut .1)) (cut .0)
+    ∙ sym (take-add (length w) (length x) image)
+    ∙ ap (λ (n : ℕ). take n image) (sym (length-append w x))
+cut-joined image (start l tagged tag x ∷ acts) cut = cut
+cut-joined image (erase ∷ acts) cut = refl
+cut-joined image (end ∷ acts) cut = refl
+
+-- the demand's last sentence, of a state that is as demanded
+pub held-unbroken : (slot : Slot) (first : State) (acts : List Act) (st : State) (image : List ℕ) → regionOk slot (length (first .memory)) ≡ true → Held slot first acts st → st .session .running ≡ true → CutFrom image acts → st .memory ≡ unbroken slot (first .memory) image (st .session .place)
+unfolding blank
+held-unbroken slot first acts st image region h running cut =
+    let r = region-bounds slot (length (first .memory)) region in
+    let b = session-bounds slot (st .session) (h .possible) running in
+    let p = placed slot (first .memory) (st .memory) (r .inside) (h .size) (h .below) (h .beyond) in
+    let f = first .memory in
+    let t = slotIn slot (st .memory) in
+    let n = st .session .place in
+    let full : List ℕ = replicate (slot .size) 255 in
+    let all : length full ≡ slot .size = length-replicate (slot .size) 255 in
+    let w : length (written acts) ≡ n = ap length (sym (h .joined running)) ∙ length-take-le n t (omega arith) in
+    let y : written acts ≡ take n image = cut-joined image acts cut ∙ ap (λ (i : ℕ). take i image) w in
+    let k : length (take n image) ≡ n = ap length (sym y) ∙ w in
+    p .1
+    ∙ ap (λ (l : List ℕ). pasted f (slot .start) l)
+    (sym (take-append-drop n t)
+    ∙ ap₂ (λ (u v : List ℕ). u ++ v) (h .joined running ∙ y) (h .blank-after running ∙ sym (drop-replicate n (slot .size) 255 (omega arith)) ∙ ap (λ (i : ℕ). drop i full) (sym k)))
+    ∙ sym (pasted-at-start f (slot .start) full (take n image) (omega arith) (omega arith))
+
+pub as-unbroken : Unbroken
+as-unbroken slot first acts st image region e history running cut = held-unbroken slot first acts st image region (demand slot first acts st region e history) running cut

@@ -1,0 +1,92 @@
+-- The definitions of region, session and plan at each way of their tests, in the terms that the code leaves.
+-- Assumes nothing.
+use mathlib.Core.Path.{_≡_, refl, sym, ap, _∙_}
+use mathlib.Core.Bool.{Bool, true, false, not, false≢true}
+use mathlib.Core.List.{List}
+use Prim.Native.Nat.{ℕ, _+_, _-_, _≤_, _<_}
+use native.Mathlib.Omega.{arith}
+use lib.Dec.{ltb, leb, eqb}
+use borrow.Author.Tests.{le-leb, lt-leb, le-ltb, lt-ltb, eq-eqb, ne-eqb, leb-true, leb-false}
+use Rattle.laws.specs.Choice.{pick, both}
+use Rattle.laws.specs.Bytes.{same}
+use Rattle.laws.proofs.Choice.{pick-yes, pick-no, pick-same, both-yes, both-no, both-last-no, both-true}
+use Rattle.slot.specs.declared.Slot.{Slot}
+use Rattle.slot.specs.declared.Session.{Session}
+use Rattle.slot.specs.declared.Number.{Number}
+use Rattle.slot.specs.declared.Upload.{Upload}
+use Rattle.slot.specs.declared.Plan.{Plan}
+use Rattle.slot.specs.declared.Plan.the-variants.{Refuse, Tell, Append, Start}
+use Rattle.slot.specs.Session.{regionOk, sessionOk, Said, ready, refused, configured}
+use Rattle.slot.specs.Plan.{largest, above, misSized, whole, sameTag, planLater, planSized, planLength, planFirst, planOf}
+
+-- a slot of no bytes, one above the largest, one that ends beyond the memory, and a possible one
+pub region-small : (slot : Slot) (m : ℕ) → slot .size < 1 → regionOk slot m ≡ false
+unfolding regionOk
+region-small slot m h = simp (lt-leb _ _ h, both-no)
+
+pub region-large : (slot : Slot) (m : ℕ) → 1048576 < slot .size → regionOk slot m ≡ false
+unfolding regionOk
+region-large slot m h = simp (lt-leb _ _ h, both-no, both-last-no)
+
+pub region-past : (slot : Slot) (m : ℕ) → m < slot .start + slot .size → regionOk slot m ≡ false
+unfolding regionOk
+region-past slot m h = simp (lt-leb _ _ h, both-last-no)
+
+pub region-is : (slot : Slot) (m : ℕ) → 1 ≤ slot .size → slot .size ≤ 1048576 → slot .start + slot .size ≤ m → regionOk slot m ≡ true
+unfolding regionOk
+region-is slot m h k l = simp (le-leb _ _ h, le-leb _ _ k, le-leb _ _ l, both-yes)
+
+-- where the slot fits its memory's end, the whole test is that it starts early enough
+pub region-last : (slot : Slot) (m : ℕ) → 1 ≤ slot .size → slot .size ≤ 1048576 → slot .size ≤ m → leb (slot .start) (m - slot .size) ≡ regionOk slot m
+region-last slot m h k l = decided (leb (slot .start) (m - slot .size)) refl
+  where
+    decided : (b : Bool) → leb (slot .start) (m - slot .size) ≡ b → b ≡ regionOk slot m
+    decided true e = sym (region-is slot m h k (omega (arith, leb-true (slot .start) (m - slot .size) e)))
+    decided false e = sym (region-past slot m (omega (arith, leb-false (slot .start) (m - slot .size) e)))
+
+-- the bounds of a possible slot
+pub record Region (slot : Slot) (m : ℕ) : Type 0 where
+  pub some : 1 ≤ slot .size
+  pub within : slot .size ≤ 1048576
+  pub inside : slot .start + slot .size ≤ m
+
+pub region-bounds : (slot : Slot) (m : ℕ) → regionOk slot m ≡ true → Region slot m
+unfolding regionOk
+region-bounds slot m e =
+    let a = both-true _ _ e in
+    let b = both-true _ _ (a .1) in
+    record { some = leb-true _ _ (a .0); within = leb-true _ _ (b .0); inside = leb-true _ _ (b .1) }
+
+-- the bounds of a possible open session
+pub record Bounds (slot : Slot) (s : Session) : Type 0 where
+  pub some : 1 ≤ s .length
+  pub within : s .length ≤ slot .size
+  pub begun : 1 ≤ s .place
+  pub placed : s .place ≤ s .length
+
+pub session-bounds : (slot : Slot) (s : Session) → sessionOk slot s ≡ true → s .running ≡ true → Bounds slot s
+unfolding sessionOk
+session-bounds slot s e running =
+    let inner = simp (running, pick-yes) at e in
+    let a = both-true _ _ inner in
+    let b = both-true _ _ (a .1) in
+    let d = both-true _ _ (b .1) in
+    record { some = leb-true _ _ (a .0); within = leb-true _ _ (b .0); begun = leb-true _ _ (d .0); placed = leb-true _ _ (d .1) }
+
+pub session-is : (slot : Slot) (s : Session) → 1 ≤ s .length → s .length ≤ slot .size → 1 ≤ s .place → s .place ≤ s .length → sessionOk slot s ≡ true
+unfolding sessionOk
+session-is slot s h k l m = simp (le-leb _ _ h, le-leb _ _ k, le-leb _ _ l, le-leb _ _ m, both-yes, pick-same)
+
+pub session-closed : (slot : Slot) (s : Session) → s .running ≡ false → sessionOk slot s ≡ true
+unfolding sessionOk
+session-closed slot s h = simp (h, pick-no)
+
+-- the last test of an open session is the whole, where the others hold
+pub session-last : (slot : Slot) (s : Session) → s .running ≡ true → 1 ≤ s .length → s .length ≤ slot .size → 1 ≤ s .place → leb (s .place) (s .length) ≡ sessionOk slot s
+unfolding sessionOk
+session-last slot s r h k l = simp (r, le-leb _ _ h, le-leb _ _ k, le-leb _ _ l, both-yes, pick-yes)
+
+-- two tags that are there are compared
+pub tag-compared : (s : Session) (u : Upload) → s .running ≡ true → s .tagged ≡ true → whole (u .sha) ≡ true → sameTag s u ≡ same (s .tag) (u .tag)
+unfolding sameTag
+tag-compared s u r t w = simp (r, t, w, both-yes)

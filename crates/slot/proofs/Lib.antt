@@ -1,0 +1,4 @@
+pub mod Laws
+pub mod Memory
+pub mod Fit
+pub mod History

@@ -1,0 +1,30 @@
+-- `slot::is_whole` meets its contract: only a whole tag is of 32 bytes.
+-- Assumes nothing.
+use Rattle.slot.specs.Plan.{whole}
+use borrow.Author.Needs.{needs}
+use Rattle.slot.proofs.is_whole.Statement.{statement}
+use Rattle.slot.proofs.is_whole.Tie as tie
+
+enum-told : tie.Need-enum-told
+enum-told c = search needs
+
+enum-told-2 : tie.Need-enum-told-2
+enum-told-2 c = search needs
+
+enum-told-3 : tie.Need-enum-told-3
+enum-told-3 c = search needs
+
+returns : tie.Need-returns
+unfolding whole
+returns c = simp (c .enum-told .given .1)
+
+returns-2 : tie.Need-returns-2
+unfolding whole
+returns-2 c = simp (c .enum-told2 .given .1)
+
+returns-3 : tie.Need-returns-3
+unfolding whole
+returns-3 c = simp (c .enum-told3 .given .1)
+
+pub is-whole-spec : {M : Type 1} → statement M
+is-whole-spec = tie.close (tie.spec enum-told enum-told-2 enum-told-3 returns returns-2 returns-3)

@@ -1,0 +1,30 @@
+-- `slot::session_possible` meets its contract: its tests are those of the definition, in the same order.
+-- Assumes nothing.
+use borrow.Author.Tests.{lt-leb, le-leb, not-true, not-false}
+use Rattle.slot.proofs.Laws.{session-last}
+use Rattle.laws.proofs.Choice.{pick-yes, pick-no, both-yes, both-no}
+use Rattle.slot.specs.Session.{sessionOk}
+use Rattle.slot.proofs.session_possible.Statement.{statement}
+use Rattle.slot.proofs.session_possible.Tie as tie
+
+returns : tie.Need-returns
+unfolding sessionOk
+returns c = simp (not-true (c .before .before .args .session .running) (c .if1 .taken), pick-no)
+
+returns-2 : tie.Need-returns-2
+unfolding sessionOk
+returns-2 c = simp (not-false (c .before .before .before .before .args .session .running) (c .before .before .if1 .left), lt-leb _ _ (c .if2 .taken), pick-yes, both-no)
+
+returns-3 : tie.Need-returns-3
+unfolding sessionOk
+returns-3 c = simp (not-false (c .before .before .before .before .before .before .before .args .session .running) (c .before .before .before .before .before .if1 .left), le-leb _ _ (c .before .before .before .if2 .left), lt-leb _ _ (c .if3 .taken), pick-yes, both-yes, both-no)
+
+returns-4 : tie.Need-returns-4
+unfolding sessionOk
+returns-4 c = simp (not-false (c .before .before .before .before .before .before .before .before .before .args .session .running) (c .before .before .before .before .before .before .before .if1 .left), le-leb _ _ (c .before .before .before .before .before .if2 .left), le-leb _ _ (c .before .before .if3 .left), lt-leb _ _ (c .if4 .taken), pick-yes, both-yes, both-no)
+
+returns-5 : tie.Need-returns-5
+returns-5 c = session-last (c .before .before .before .before .before .before .before .before .before .before .args .slot) (c .before .before .before .before .before .before .before .before .before .before .args .session) (not-false (c .before .before .before .before .before .before .before .before .before .before .args .session .running) (c .before .before .before .before .before .before .before .before .if1 .left)) (c .before .before .before .before .before .before .if2 .left) (c .before .before .before .if3 .left) (c .before .if4 .left)
+
+pub session-possible-spec : {M : Type 1} → statement M
+session-possible-spec = tie.close (tie.spec returns returns-2 returns-3 returns-4 returns-5)

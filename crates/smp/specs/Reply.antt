@@ -1,0 +1,40 @@
+-- Replies: what each says, and its form.
+-- Assumes nothing.
+use Prim.Native.Nat.{ℕ, _+_}
+use mathlib.Core.Path.{_≡_}
+use mathlib.Core.List.{List, _++_}
+use lib.Dec.{ltb}
+use lib.ListN.{length, take, drop}
+use Rattle.laws.specs.Choice.{pick}
+use Rattle.laws.specs.Bytes.{pasted}
+use Rattle.cbor.specs.Write.{unsigned, textOf, mapOf}
+use Rattle.map.specs.Keys.{nameR, nameRc, nameOff}
+use Rattle.smp.specs.declared.Header.{Header}
+use Rattle.smp.specs.declared.Reply.{Reply}
+use Rattle.smp.specs.Packet.{headerBytes}
+
+-- a reply's map: {"rc": n}; {"rc": 0, "off": n}; {"r": text}, the text a part of the request s
+unfoldable pub replyMap : List ℕ → Reply → List ℕ
+replyMap s (Reply.Rc n) = mapOf 1 ++ (textOf nameRc ++ unsigned n)
+replyMap s (Reply.Placed n) = mapOf 2 ++ (textOf nameRc ++ (unsigned 0 ++ (textOf nameOff ++ unsigned n)))
+replyMap s (Reply.Text start len) = mapOf 1 ++ (textOf nameR ++ textOf (take len (drop start s)))
+
+-- "the reply has op plus 1, flags 0, and the same group, sequence and command"
+abbrev pub replyHeader : Header → ℕ → Header
+replyHeader h n = record { op = h .op + 1; flags = 0; length = n; group = h .group; sequence = h .sequence; command = h .command }
+
+-- a reply with this map to a request with this header
+unfoldable pub replyPacket : Header → List ℕ → List ℕ
+replyPacket h m = headerBytes (replyHeader h (length m)) ++ m
+
+-- the reply that goes into a buffer of this many bytes: "An echo reply longer than its buffer becomes rc 7."
+unfoldable pub replyBytes : Header → List ℕ → Reply → ℕ → List ℕ
+replyBytes h s r room =
+    pick (ltb room (8 + length (replyMap s r)))
+    (replyPacket h (replyMap s (Reply.Rc 7)))
+    (replyPacket h (replyMap s r))
+
+-- a reply that was written: its length n, and the buffer, d before and e after
+pub record Written (h : Header) (s : List ℕ) (r : Reply) (d : List ℕ) (n : ℕ) (e : List ℕ) : Type 0 where
+  pub count : n ≡ length (replyBytes h s r (length d))
+  pub bytes : e ≡ pasted d 0 (replyBytes h s r (length d))
