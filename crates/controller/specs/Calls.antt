@@ -1,0 +1,58 @@
+-- Any history of request calls: one memory, one slot, the record handed back after each call. What is shown of the memory at every point.
+-- Assumes nothing.
+use Prim.Native.Nat.{ℕ}
+use mathlib.Core.Path.{_≡_}
+use mathlib.Core.Bool.{Bool, true, false, not}
+use mathlib.Core.List.{List, [], _∷_}
+use lib.Dec.{ltb}
+use lib.ListN.{length}
+use Rattle.laws.specs.Choice.{pick}
+use Rattle.slot.specs.declared.Slot.{Slot}
+use Rattle.slot.specs.Session.{regionOk}
+use Rattle.slot.specs.Act.{State, Act}
+use Rattle.slot.specs.History.{History, Held, CutFrom, unbroken}
+use Rattle.smp.specs.declared.Reading.{Reading}
+use Rattle.smp.specs.Request.{readRequest}
+use Rattle.controller.specs.Doing.{actFor}
+use Rattle.controller.specs.Handle.{possible, handle}
+
+-- one call's packet and reply buffer
+pub record Call : Type 0 where
+  pub packet : List ℕ
+  pub buffer : List ℕ
+
+-- memory and session after calls, the newest first
+unfoldable pub after : Slot → State → List Call → State
+after slot first [] = first
+after slot first (c ∷ calls) = handle slot (after slot first calls) (c .packet) (c .buffer) .state
+
+-- the act of a packet that was read
+unfoldable pub actRead : Slot → State → List ℕ → Reading → Act
+actRead slot st p Reading.NotARequest = Act.keep
+actRead slot st p (Reading.Is r) = actFor slot (st .session) p r
+
+-- what one call does to memory and session
+unfoldable pub actOn : Slot → State → Call → Act
+actOn slot st c =
+    pick (not (possible slot st)) Act.keep
+    (pick (ltb (length (c .buffer)) 32) Act.keep
+    (actRead slot st (c .packet) (readRequest (c .packet))))
+
+-- what calls did, the newest first
+unfoldable pub actsOf : Slot → State → List Call → List Act
+actsOf slot first [] = []
+actsOf slot first (c ∷ calls) = actOn slot (after slot first calls) c ∷ actsOf slot first calls
+
+-- the demand, for any list of packets: at every point, what `Held` says
+abbrev pub PacketDemand : Type 0
+PacketDemand =
+    (slot : Slot) (first : State) (calls : List Call) → regionOk slot (length (first .memory)) ≡ true → first .session .running ≡ false
+    → Held slot first (actsOf slot first calls) (after slot first calls)
+
+-- the demand's last sentence, for packets
+abbrev pub PacketUnbroken : Type 0
+PacketUnbroken =
+    (slot : Slot) (first : State) (calls : List Call) (image : List ℕ) → regionOk slot (length (first .memory)) ≡ true → first .session .running ≡ false
+    → after slot first calls .session .running ≡ true
+    → CutFrom image (actsOf slot first calls)
+    → after slot first calls .memory ≡ unbroken slot (first .memory) image (after slot first calls .session .place)
