@@ -1,22 +1,14 @@
 -- The known keys of each kind of map, and the type that each has.
 -- Assumes nothing.
 use Prim.Native.Nat.{ℕ}
-use mathlib.Core.Bool.{Bool, true, false}
 use mathlib.Core.List.{List, [], _∷_}
-use lib.Dec.{eqb}
-use Rattle.laws.specs.Choice.{pick, both}
+use Rattle.laws.specs.Choice.{pick}
+use Rattle.laws.specs.Bytes.{same}
 use Rattle.cbor.specs.declared.Value.{Value}
 use Rattle.cbor.specs.declared.Value.the-variants.{Unsigned, Negative, Bytes, Null}
 use Rattle.map.specs.declared.Kind.{Kind}
 use Rattle.map.specs.declared.Kind.the-variants.{Echo, Reset, Upload, Erase, Reply}
 use Rattle.map.specs.declared.Key.{Key}
-
--- two lists are the same, element by element
-unfoldable pub same : List ℕ → List ℕ → Bool
-same [] [] = true
-same [] (b ∷ t) = false
-same (a ∷ s) [] = false
-same (a ∷ s) (b ∷ t) = both (eqb a b) (same s t)
 
 -- the keys' names, in ASCII: "d", "r", "data", "sha", "off", "len", "image", "upgrade", "slot", "rc"
 abbrev pub nameD : List ℕ

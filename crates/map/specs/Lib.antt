@@ -1,2 +1,4 @@
 pub mod Keys
 pub mod Walk
+pub mod Steps
+pub mod Sound

@@ -1,5 +1,15 @@
 // The one walk over a packet's map: its known keys become fields, its other keys are skipped, and anything else is malformed.
+use cbor::Head;
+use cbor::Item;
 use cbor::Value;
+ghost use mathlib.Core.Path.{_≡_};
+ghost use Prim.Native.Nat.{_+_, _≤_};
+ghost use lib.ListN.{length, take, drop};
+ghost use Rattle.cbor.specs.Read.{itemAt};
+ghost use Rattle.laws.specs.Bytes.{same};
+ghost use Rattle.map.specs.Keys.{keyOf, typeOf, typeFor};
+ghost use Rattle.map.specs.Walk.{nothing, fieldAt, withField, isThere, listed, pairValue, pairAt, mapFrom};
+ghost use Rattle.map.specs.Steps.{secondName, enteredKnown};
 
 // Whose map it is: what differs is which keys are known.
 pub enum Kind {
@@ -55,4 +65,410 @@ pub enum Paired {
 pub enum Walked {
     Map(Fields),
     Malformed,
+}
+
+// The name of len bytes from place start of s on is this one.
+fn name_is(s: &[u8], start: usize, len: usize, name: &[u8]) -> bool
+    requires { ⌜ start + len ≤ length (now s) ⌝ }
+    ensures { λ r. ⌜ r ≡ same (take len (drop start (now (s .entry)))) (now (name .entry)) ⌝ }
+{
+    let end = start + len;
+    laws::equal(&s[start..end], name)
+}
+
+// The upload's key of this name, where it is none of the first three.
+fn upload_later(s: &[u8], start: usize, len: usize) -> Key
+    requires { ⌜ start + len ≤ length (now s) ⌝ }
+    ensures { λ r. ⌜ r ≡ secondName (take len (drop start (now (s .entry)))) ⌝ }
+{
+    if name_is(s, start, len, b"image") {
+        return Key::Image;
+    }
+    if name_is(s, start, len, b"sha") {
+        return Key::Sha;
+    }
+    if name_is(s, start, len, b"upgrade") {
+        return Key::Upgrade;
+    }
+    Key::Other
+}
+
+// The upload's key of this name.
+fn upload_key(s: &[u8], start: usize, len: usize) -> Key
+    requires { ⌜ start + len ≤ length (now s) ⌝ }
+    ensures { λ r. ⌜ r ≡ keyOf Kind.Upload (take len (drop start (now (s .entry)))) ⌝ }
+{
+    if name_is(s, start, len, b"data") {
+        return Key::Data;
+    }
+    if name_is(s, start, len, b"off") {
+        return Key::Off;
+    }
+    if name_is(s, start, len, b"len") {
+        return Key::Len;
+    }
+    upload_later(s, start, len)
+}
+
+// The reply's key of this name.
+fn reply_key(s: &[u8], start: usize, len: usize) -> Key
+    requires { ⌜ start + len ≤ length (now s) ⌝ }
+    ensures { λ r. ⌜ r ≡ keyOf Kind.Reply (take len (drop start (now (s .entry)))) ⌝ }
+{
+    if name_is(s, start, len, b"rc") {
+        return Key::Rc;
+    }
+    if name_is(s, start, len, b"off") {
+        return Key::Off;
+    }
+    if name_is(s, start, len, b"r") {
+        return Key::Text;
+    }
+    Key::Other
+}
+
+// The key of this name in a map of this kind.
+fn key_of(kind: Kind, s: &[u8], start: usize, len: usize) -> Key
+    requires { ⌜ start + len ≤ length (now s) ⌝ }
+    ensures { λ r. ⌜ r ≡ keyOf kind (take len (drop start (now (s .entry)))) ⌝ }
+{
+    match kind {
+        Kind::Echo => {
+            if name_is(s, start, len, b"d") {
+                return Key::Text;
+            }
+            return Key::Other;
+        }
+        Kind::Reset => {
+            return Key::Other;
+        }
+        Kind::Upload => {
+            return upload_key(s, start, len);
+        }
+        Kind::Erase => {
+            if name_is(s, start, len, b"slot") {
+                return Key::Slot;
+            }
+            return Key::Other;
+        }
+        Kind::Reply => {
+            return reply_key(s, start, len);
+        }
+    }
+}
+
+// A value's type, as a number.
+fn type_of(v: Value) -> u8
+    ensures { λ r. ⌜ r ≡ typeOf v ⌝ }
+{
+    match v {
+        Value::Unsigned(_) => 0,
+        Value::Negative(_) => 1,
+        Value::Bytes { start: _, len: _ } => 2,
+        Value::Text { start: _, len: _ } => 3,
+        Value::Flag(_) => 20,
+        Value::Null => 22,
+    }
+}
+
+// The type listed for a key, as a number.
+fn type_for(k: Key) -> u8
+    ensures { λ r. ⌜ r ≡ typeFor k ⌝ }
+{
+    match k {
+        Key::Text => 3,
+        Key::Data => 2,
+        Key::Sha => 2,
+        Key::Off => 0,
+        Key::Len => 0,
+        Key::Image => 0,
+        Key::Upgrade => 20,
+        Key::Slot => 0,
+        Key::Rc => 0,
+        Key::Other => 99,
+    }
+}
+
+// The key is one of the known ones: another has no type below 99.
+fn is_listed(k: Key) -> bool
+    ensures { λ r. ⌜ r ≡ listed k ⌝ }
+{
+    type_for(k) < 99
+}
+
+// The field of a key.
+fn field_at(k: Key, f: Fields) -> Field
+    ensures { λ r. ⌜ r ≡ fieldAt k f ⌝ }
+{
+    match k {
+        Key::Text => f.text,
+        Key::Data => f.chunk,
+        Key::Sha => f.sha,
+        Key::Off => f.off,
+        Key::Len => f.len,
+        Key::Image => f.image,
+        Key::Upgrade => f.upgrade,
+        Key::Slot => f.slot,
+        Key::Rc => f.rc,
+        Key::Other => Field::Absent,
+    }
+}
+
+// The field of a key has been read.
+fn is_there(k: Key, f: Fields) -> bool
+    ensures { λ r. ⌜ r ≡ isThere (fieldAt k f) ⌝ }
+{
+    let field = field_at(k, f);
+    let Field::Is(_) = field else {
+        return false;
+    };
+    true
+}
+
+// The fields with this one for a key.
+fn with_field(k: Key, v: Field, f: Fields) -> Fields
+    ensures { λ r. ⌜ r ≡ withField k v f ⌝ }
+{
+    let text = f.text;
+    let chunk = f.chunk;
+    let sha = f.sha;
+    let off = f.off;
+    let len = f.len;
+    let image = f.image;
+    let upgrade = f.upgrade;
+    let slot = f.slot;
+    let rc = f.rc;
+    match k {
+        Key::Text => Fields {
+            text: v,
+            chunk,
+            sha,
+            off,
+            len,
+            image,
+            upgrade,
+            slot,
+            rc,
+        },
+        Key::Data => Fields {
+            text,
+            chunk: v,
+            sha,
+            off,
+            len,
+            image,
+            upgrade,
+            slot,
+            rc,
+        },
+        Key::Sha => Fields {
+            text,
+            chunk,
+            sha: v,
+            off,
+            len,
+            image,
+            upgrade,
+            slot,
+            rc,
+        },
+        Key::Off => Fields {
+            text,
+            chunk,
+            sha,
+            off: v,
+            len,
+            image,
+            upgrade,
+            slot,
+            rc,
+        },
+        Key::Len => Fields {
+            text,
+            chunk,
+            sha,
+            off,
+            len: v,
+            image,
+            upgrade,
+            slot,
+            rc,
+        },
+        Key::Image => Fields {
+            text,
+            chunk,
+            sha,
+            off,
+            len,
+            image: v,
+            upgrade,
+            slot,
+            rc,
+        },
+        Key::Upgrade => Fields {
+            text,
+            chunk,
+            sha,
+            off,
+            len,
+            image,
+            upgrade: v,
+            slot,
+            rc,
+        },
+        Key::Slot => Fields {
+            text,
+            chunk,
+            sha,
+            off,
+            len,
+            image,
+            upgrade,
+            slot: v,
+            rc,
+        },
+        Key::Rc => Fields {
+            text,
+            chunk,
+            sha,
+            off,
+            len,
+            image,
+            upgrade,
+            slot,
+            rc: v,
+        },
+        Key::Other => f,
+    }
+}
+
+// A known key and its value: it comes for the first time, with its type.
+fn entered_known(k: Key, v: Value, f: Fields) -> Walked
+    ensures { λ r. ⌜ r ≡ enteredKnown k v f ⌝ }
+{
+    if is_there(k, f) {
+        return Walked::Malformed;
+    }
+    if type_of(v) == type_for(k) {
+        return Walked::Map(with_field(k, Field::Is(v), f));
+    }
+    Walked::Malformed
+}
+
+// A key and its value.
+fn entered(k: Key, v: Value, f: Fields) -> Walked
+    ensures { λ r. ⌜ r ≡ Rattle.map.specs.Walk.entered k v f ⌝ }
+{
+    if is_listed(k) {
+        return entered_known(k, v, f);
+    }
+    Walked::Map(f)
+}
+
+// The value at a place of s, under a key.
+fn pair_value(k: Key, f: Fields, s: &[u8], at: usize) -> Paired
+    ensures { λ r. ⌜ r ≡ pairValue k f (itemAt (now (s .entry)) at) ⌝ }
+{
+    let item = cbor::item_at(s, at);
+    let Item::Is { value, next } = item else {
+        return Paired::Malformed;
+    };
+    let walked = entered(k, value, f);
+    let Walked::Map(fields) = walked else {
+        return Paired::Malformed;
+    };
+    Paired::Next { at: next, fields }
+}
+
+// The pair at a place of s.
+fn pair_at(kind: Kind, s: &[u8], at: usize, f: Fields) -> Paired
+    ensures { λ r. ⌜ r ≡ pairAt kind (now (s .entry)) at f ⌝ }
+{
+    let head = cbor::head_at(s, at);
+    let Head::Is {
+        major,
+        argument,
+        next,
+    } = head
+    else {
+        return Paired::Malformed;
+    };
+    if major != 3 {
+        return Paired::Malformed;
+    }
+    let left = (s.len() - next) as u64;
+    if left < argument {
+        return Paired::Malformed;
+    }
+    let len = argument as usize;
+    let key = key_of(kind, s, next, len);
+    pair_value(key, f, s, next + len)
+}
+
+// The pairs of s from a place on, n of them, and nothing after them.
+fn walk(kind: Kind, s: &[u8], n: u64, from: usize) -> Walked
+    ensures { λ r. ⌜ r ≡ Rattle.map.specs.Walk.walk kind (now (s .entry)) n from nothing ⌝ }
+{
+    let mut left = n;
+    let mut at = from;
+    let mut fields = Fields {
+        text: Field::Absent,
+        chunk: Field::Absent,
+        sha: Field::Absent,
+        off: Field::Absent,
+        len: Field::Absent,
+        image: Field::Absent,
+        upgrade: Field::Absent,
+        slot: Field::Absent,
+        rc: Field::Absent,
+    };
+    while 0 < left {
+        let pair = pair_at(kind, s, at, fields);
+        let Paired::Next {
+            at: next,
+            fields: more,
+        } = pair
+        else {
+            return Walked::Malformed;
+        };
+        at = next;
+        fields = more;
+        left -= 1;
+    }
+    if at == s.len() {
+        return Walked::Map(fields);
+    }
+    Walked::Malformed
+}
+
+// The map of a packet whose payload begins at a place of s.
+pub fn map_from(kind: Kind, s: &[u8], from: usize) -> Walked
+    ensures { λ r. ⌜ r ≡ mapFrom kind (now (s .entry)) from ⌝ }
+{
+    if s.len() == from {
+        return Walked::Map(Fields {
+            text: Field::Absent,
+            chunk: Field::Absent,
+            sha: Field::Absent,
+            off: Field::Absent,
+            len: Field::Absent,
+            image: Field::Absent,
+            upgrade: Field::Absent,
+            slot: Field::Absent,
+            rc: Field::Absent,
+        });
+    }
+    let head = cbor::head_at(s, from);
+    let Head::Is {
+        major,
+        argument,
+        next,
+    } = head
+    else {
+        return Walked::Malformed;
+    };
+    if major == 5 {
+        return walk(kind, s, argument, next);
+    }
+    Walked::Malformed
 }

@@ -1,0 +1,88 @@
+-- `map::pair_at` meets its contract: its tests are those of the definition, in the same order.
+-- Assumes nothing.
+use mathlib.Core.Path.{sym, ap, _∙_}
+use Prim.Native.Nat.{_+_}
+use native.Mathlib.Omega.{arith}
+use Rattle.cbor.specs.Read.{itemAt}
+use Rattle.cbor.proofs.Laws.{head-place}
+use Rattle.map.specs.declared.Key.{Key}
+use Rattle.map.specs.Walk.{pairValue}
+use Rattle.map.proofs.Ways.{pair-bad, pair-other, pair-cut, pair-whole}
+use borrow.Author.Needs.{needs}
+use Rattle.map.proofs.pair_at.Statement.{statement}
+use Rattle.map.proofs.pair_at.Tie as tie
+
+head-at-requires : tie.Need-head-at-requires
+head-at-requires c κs = search needs
+
+enum-known-head : tie.Need-enum-known-head
+enum-known-head c = search needs
+
+enum-told : tie.Need-enum-told
+enum-told c = search needs
+
+returns : tie.Need-returns
+returns c =
+    let a = c .before .before .before .before .args in
+    sym (pair-bad (a .kind) (a .s .now) (a .at) (a .f) (sym (c .before .before .head-at .ensures) ∙ c .enum-told .given .1))
+
+returns-2 : tie.Need-returns-2
+returns-2 c =
+    let a = c .before .before .before .before .before .before .args in
+    let g = c .before .before .head .given in
+    let e = sym (c .before .before .before .before .head-at .ensures) ∙ g .1 in
+    sym (pair-other (a .kind) (a .s .now) (a .at) (a .f) (g .0 .0) (g .0 .1 .0) (g .0 .1 .1 .0) e (c .if1 .taken))
+
+sub-left : tie.Need-sub-left
+sub-left c =
+    let a = c .before .before .before .before .before .before .args in
+    let g = c .before .before .head .given in
+    let e = sym (c .before .before .before .before .head-at .ensures) ∙ g .1 in
+    let place = head-place (a .s .now) (a .at) (g .0 .0) (g .0 .1 .0) (g .0 .1 .1 .0) e in
+    omega (arith, place .1)
+
+returns-3 : tie.Need-returns-3
+returns-3 c =
+    let a = c .before .before .before .before .before .before .before .args in
+    let g = c .before .before .before .head .given in
+    let e = sym (c .before .before .before .before .before .head-at .ensures) ∙ g .1 in
+    sym (pair-cut (a .kind) (a .s .now) (a .at) (a .f) (g .0 .0) (g .0 .1 .0) (g .0 .1 .1 .0) e (c .before .if1 .left) (omega arith))
+
+key-of-requires : tie.Need-key-of-requires
+key-of-requires c κs =
+    let a = c .before .before .before .before .before .before .before .args in
+    let g = c .before .before .before .head .given in
+    let e = sym (c .before .before .before .before .before .head-at .ensures) ∙ g .1 in
+    let place = head-place (a .s .now) (a .at) (g .0 .0) (g .0 .1 .0) (g .0 .1 .1 .0) e in
+    omega (arith, place .1)
+
+add-pair-value : tie.Need-add-pair-value
+add-pair-value c = search needs
+
+pair-value-requires : tie.Need-pair-value-requires
+pair-value-requires c κs = search needs
+
+returns-4 : tie.Need-returns-4
+returns-4 c =
+    let a = c .before .before .before .before .before .before .before .before .before .args in
+    let g = c .before .before .before .before .before .head .given in
+    let e = sym (c .before .before .before .before .before .before .before .head-at .ensures) ∙ g .1 in
+    c .pair-value .ensures
+    ∙ ap (λ (k : Key). pairValue k (a .f) (itemAt (a .s .now) (g .0 .1 .1 .0 + g .0 .1 .0))) (c .before .key-of .ensures)
+    ∙ sym (pair-whole (a .kind) (a .s .now) (a .at) (a .f) (g .0 .0) (g .0 .1 .0) (g .0 .1 .1 .0) e (c .before .before .before .if1 .left) (omega arith))
+
+pub pair-at-spec : {M : Type 1} → statement M
+pair-at-spec =
+    tie.close
+    (tie.spec
+    head-at-requires
+    enum-known-head
+    enum-told
+    returns
+    returns-2
+    sub-left
+    returns-3
+    key-of-requires
+    add-pair-value
+    pair-value-requires
+    returns-4)

@@ -1,0 +1,103 @@
+-- `map::with_field` meets its contract: each key puts one field anew.
+-- Assumes nothing.
+use mathlib.Core.Path.{sym, ap}
+use Rattle.map.specs.declared.Key.{Key}
+use Rattle.map.specs.Walk.{withField}
+use borrow.Author.Needs.{needs}
+use Rattle.map.proofs.with_field.Statement.{statement}
+use Rattle.map.proofs.with_field.Tie as tie
+
+enum-told : tie.Need-enum-told
+enum-told c = search needs
+
+enum-told-2 : tie.Need-enum-told-2
+enum-told-2 c = search needs
+
+enum-told-3 : tie.Need-enum-told-3
+enum-told-3 c = search needs
+
+enum-told-4 : tie.Need-enum-told-4
+enum-told-4 c = search needs
+
+enum-told-5 : tie.Need-enum-told-5
+enum-told-5 c = search needs
+
+enum-told-6 : tie.Need-enum-told-6
+enum-told-6 c = search needs
+
+enum-told-7 : tie.Need-enum-told-7
+enum-told-7 c = search needs
+
+enum-told-8 : tie.Need-enum-told-8
+enum-told-8 c = search needs
+
+enum-told-9 : tie.Need-enum-told-9
+enum-told-9 c = search needs
+
+enum-told-10 : tie.Need-enum-told-10
+enum-told-10 c = search needs
+
+returns : tie.Need-returns
+unfolding withField
+returns c = sym (ap (λ (k : Key). withField k (c .before .before .args .v) (c .before .before .args .f)) (c .enum-told .given .1))
+
+returns-2 : tie.Need-returns-2
+unfolding withField
+returns-2 c = sym (ap (λ (k : Key). withField k (c .before .before .args .v) (c .before .before .args .f)) (c .enum-told2 .given .1))
+
+returns-3 : tie.Need-returns-3
+unfolding withField
+returns-3 c = sym (ap (λ (k : Key). withField k (c .before .before .args .v) (c .before .before .args .f)) (c .enum-told3 .given .1))
+
+returns-4 : tie.Need-returns-4
+unfolding withField
+returns-4 c = sym (ap (λ (k : Key). withField k (c .before .before .args .v) (c .before .before .args .f)) (c .enum-told4 .given .1))
+
+returns-5 : tie.Need-returns-5
+unfolding withField
+returns-5 c = sym (ap (λ (k : Key). withField k (c .before .before .args .v) (c .before .before .args .f)) (c .enum-told5 .given .1))
+
+returns-6 : tie.Need-returns-6
+unfolding withField
+returns-6 c = sym (ap (λ (k : Key). withField k (c .before .before .args .v) (c .before .before .args .f)) (c .enum-told6 .given .1))
+
+returns-7 : tie.Need-returns-7
+unfolding withField
+returns-7 c = sym (ap (λ (k : Key). withField k (c .before .before .args .v) (c .before .before .args .f)) (c .enum-told7 .given .1))
+
+returns-8 : tie.Need-returns-8
+unfolding withField
+returns-8 c = sym (ap (λ (k : Key). withField k (c .before .before .args .v) (c .before .before .args .f)) (c .enum-told8 .given .1))
+
+returns-9 : tie.Need-returns-9
+unfolding withField
+returns-9 c = sym (ap (λ (k : Key). withField k (c .before .before .args .v) (c .before .before .args .f)) (c .enum-told9 .given .1))
+
+returns-10 : tie.Need-returns-10
+unfolding withField
+returns-10 c = sym (ap (λ (k : Key). withField k (c .before .before .args .v) (c .before .before .args .f)) (c .enum-told10 .given .1))
+
+pub with-field-spec : {M : Type 1} → statement M
+with-field-spec =
+    tie.close
+    (tie.spec
+    enum-told
+    enum-told-2
+    enum-told-3
+    enum-told-4
+    enum-told-5
+    enum-told-6
+    enum-told-7
+    enum-told-8
+    enum-told-9
+    enum-told-10
+    returns
+    returns-2
+    returns-3
+    returns-4
+    returns-5
+    returns-6
+    returns-7
+    returns-8
+    returns-9
+    returns-10)
