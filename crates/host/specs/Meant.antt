@@ -1,0 +1,97 @@
+-- What is shown of both ends together: what the host writes is read by the controller as the request that was meant, and what the controller
+-- writes is read by the host as what it meant.
+-- Assumes nothing.
+use Prim.Native.Nat.{ℕ, _+_, _≤_, _<_}
+use mathlib.Core.Path.{_≡_}
+use mathlib.Core.Bool.{Bool, true, false}
+use mathlib.Core.List.{List}
+use lib.Dec.{eqb}
+use lib.ListN.{length, take, drop}
+use Rattle.laws.specs.Choice.{pick}
+use Rattle.laws.specs.Bytes.{Bytes}
+use Rattle.slot.specs.declared.Number.{Number}
+use Rattle.slot.specs.declared.Sha.{Sha}
+use Rattle.smp.specs.declared.Run.{Run}
+use Rattle.smp.specs.declared.Chunk.{Chunk}
+use Rattle.smp.specs.declared.Request.{Request}
+use Rattle.smp.specs.declared.Reading.{Reading}
+use Rattle.smp.specs.declared.Reply.{Reply as Said′}
+use Rattle.smp.specs.Packet.{headerIn}
+use Rattle.smp.specs.Request.{readRequest, isRequest}
+use Rattle.smp.specs.Reply.{replyMap, replyHeader, replyPacket}
+use Rattle.host.specs.Write.{Outcome, packet, writeEcho, writeReset, writeErase, writeUpload}
+use Rattle.host.specs.Read.{reply, readReply}
+
+-- the packet at the start of a buffer, where a writer says that it wrote one of n bytes
+abbrev pub sent : Outcome → ℕ → List ℕ
+sent o n = take n (o .buffer)
+
+-- an echo that was written is read as the echo of that text
+abbrev pub EchoMeant : Type 0
+EchoMeant =
+    (sequence : ℕ) (text out : List ℕ) (n : ℕ) → sequence < 256 → Bytes text → writeEcho sequence text out .says ≡ packet n
+    → (start : ℕ)
+    × (readRequest (sent (writeEcho sequence text out) n) ≡ Reading.Is (Request.Echo start (length text)))
+    × (take (length text) (drop start (sent (writeEcho sequence text out) n)) ≡ text)
+
+-- so are reset and erase
+abbrev pub ResetMeant : Type 0
+ResetMeant = (sequence : ℕ) (out : List ℕ) (n : ℕ) → sequence < 256 → writeReset sequence out .says ≡ packet n → readRequest (sent (writeReset sequence out) n) ≡ Reading.Is Request.Reset
+
+abbrev pub EraseMeant : Type 0
+EraseMeant = (sequence : ℕ) (out : List ℕ) (n : ℕ) → sequence < 256 → writeErase sequence out .says ≡ packet n → readRequest (sent (writeErase sequence out) n) ≡ Reading.Is Request.Erase
+
+-- an upload request p is read as the chunk c: the offset, the data, and at offset 0 the length and the tag; nothing else is asked
+pub record ChunkMeant (x : List ℕ) (off size : ℕ) (tag p : List ℕ) (c : Chunk) : Type 0 where
+  pub read : readRequest p ≡ Reading.Is (Request.Upload c)
+  pub offset : c .off ≡ off
+  pub data-is : take (c .size) (drop (c .start) p) ≡ x
+  pub data-size : c .size ≡ length x
+  pub length-is : c .length ≡ pick (eqb off 0) (Number.Is size) Number.Absent
+  pub image-is : c .image ≡ Number.Absent
+  pub tag-there : c .sha ≡ pick (eqb off 0) (pick (eqb (length tag) 0) Sha.Absent Sha.Whole) Sha.Absent
+  pub tag-is : c .sha ≡ Sha.Whole → take 32 (drop (c .«tag_at») p) ≡ tag
+  pub upgrade-is : c .upgrade ≡ false
+
+abbrev pub UploadMeant : Type 0
+UploadMeant =
+    (sequence : ℕ) (x : List ℕ) (off size : ℕ) (tag out : List ℕ) (n : ℕ) → sequence < 256 → Bytes x → Bytes tag
+    → writeUpload sequence x off size tag out .says ≡ packet n
+    → (c : Chunk) × ChunkMeant x off size tag (sent (writeUpload sequence x off size tag out) n) c
+
+-- the return code, the offset and the text that a reply means; the text stands at `start` in the reply
+unfoldable pub rcMeant : Said′ → ℕ
+rcMeant (Said′.Rc n) = n
+rcMeant (Said′.Placed n) = 0
+rcMeant (Said′.Text from len) = 0
+
+unfoldable pub offMeant : Said′ → Number
+offMeant (Said′.Rc n) = Number.Absent
+offMeant (Said′.Placed n) = Number.Is n
+offMeant (Said′.Text from len) = Number.Absent
+
+unfoldable pub textMeant : Said′ → ℕ → Run
+textMeant (Said′.Rc n) start = Run.Absent
+textMeant (Said′.Placed n) start = Run.Absent
+textMeant (Said′.Text from len) start = Run.At start len
+
+-- the text that a reply p carries at `start` is that of the request s
+unfoldable pub TextIs : List ℕ → Said′ → List ℕ → ℕ → Type 0
+TextIs s (Said′.Rc n) p start = Unit {0}
+TextIs s (Said′.Placed n) p start = Unit {0}
+TextIs s (Said′.Text from len) p start = take len (drop start p) ≡ take len (drop from s)
+
+-- a reply that the controller can write: an offset of four bytes, a text that lies in the request
+unfoldable pub Writable : List ℕ → Said′ → Type 0
+Writable s (Said′.Rc n) = n < 256
+Writable s (Said′.Placed n) = n < 4294967296
+Writable s (Said′.Text from len) = from + len ≤ length s
+
+-- a reply that was written is read as what it meant
+abbrev pub ReplyMeant : Type 0
+ReplyMeant =
+    (s : List ℕ) (r : Said′) → Bytes s → isRequest s ≡ true → Writable s r → 8 + length (replyMap s r) ≤ 65533
+    → (start : ℕ)
+    × (readReply (replyPacket (headerIn s) (replyMap s r))
+    ≡ reply (record { header = replyHeader (headerIn s) (length (replyMap s r)); rc = rcMeant r; off = offMeant r; text = textMeant r start }))
+    × TextIs s r (replyPacket (headerIn s) (replyMap s r)) start
