@@ -25,7 +25,7 @@ use Rattle.cbor.specs.Write.{beBytes, headOf, bytesOf, textOf}
 use Rattle.cbor.specs.Within.{Inside, HeadWithin, ItemWithin}
 use Rattle.cbor.proofs.Numbers.{bytes-length, number-back, read-bound, eight-bytes}
 
--- the width at one of its four initial bytes, and its bound
+-- an initial byte of 24 and k more says a width of 2 to the k
 pub width-is : (info k : ℕ) → info ≡ 24 + k → widthOf info ≡ 2 ^ k
 unfolding widthOf
 width-is info k h = ap (λ (x : ℕ). 2 ^ x) (drop-24 info k h)
@@ -33,86 +33,101 @@ width-is info k h = ap (λ (x : ℕ). 2 ^ x) (drop-24 info k h)
     drop-24 : (info k : ℕ) → info ≡ 24 + k → info - 24 ≡ k
     drop-24 info k h = omega arith
 
+-- no width is above eight
 pub width-most : (info : ℕ) → info ≤ 27 → widthOf info ≤ 8
 unfolding widthOf
 width-most info h = pow-le-pow-right (lit< tt) {i = info - 24} {j = 3} (omega arith)
 
--- a head at each way of its tests: past the end; its argument in the initial byte; no such width; cut short; whole
+-- past the end there is no head
 pub head-past : (s : List ℕ) (at : ℕ) → length s ≤ at → headAt s at ≡ Head.Malformed
 unfolding headAt
 head-past s at h = simp (le-ltb _ _ h, pick-no)
 
+-- within the bytes a head goes by its initial byte
 pub head-there : (s : List ℕ) (at : ℕ) → at < length s → headAt s at ≡ headAfter s (getD s at 0) (at + 1)
 unfolding headAt
 head-there s at h = simp (lt-ltb _ _ h, pick-yes)
 
+-- a head whose argument is in the initial byte
 pub head-small : (s : List ℕ) (b at : ℕ) → b % 32 < 24 → headAfter s b at ≡ Head.Is (b / 32) (b % 32) at
 unfolding headAfter
 head-small s b at h = simp (lt-ltb _ _ h, pick-yes)
 
+-- five low bits above 27 begin no head
 pub head-none : (s : List ℕ) (b at : ℕ) → 27 < b % 32 → headAfter s b at ≡ Head.Malformed
 unfolding headAfter
 head-none s b at h =
     let k : 24 ≤ b % 32 = omega arith in
     simp (le-ltb _ _ k, lt-ltb _ _ h, pick-yes, pick-no)
 
+-- a head whose argument is cut short
 pub head-cut : (s : List ℕ) (b at : ℕ) → 24 ≤ b % 32 → b % 32 ≤ 27 → length s - at < widthOf (b % 32) → headAfter s b at ≡ Head.Malformed
 unfolding headAfter
 head-cut s b at h k l = simp (le-ltb _ _ h, le-ltb _ _ k, lt-ltb _ _ l, pick-yes, pick-no)
 
+-- a head whose argument is there
 pub head-whole : (s : List ℕ) (b at : ℕ) → 24 ≤ b % 32 → b % 32 ≤ 27 → widthOf (b % 32) ≤ length s - at → headAfter s b at ≡ Head.Is (b / 32) (beAfter 0 (take (widthOf (b % 32)) (drop at s))) (at + widthOf (b % 32))
 unfolding headAfter
 head-whole s b at h k l = simp (le-ltb _ _ h, le-ltb _ _ k, le-ltb _ _ l, pick-no)
 
--- a string that is cut short, and a whole one
+-- a string that is cut short
 pub string-cut : (s : List ℕ) (v : Value) (n at : ℕ) → length s - at < n → stringFrom s v n at ≡ Item.Malformed
 unfolding stringFrom
 string-cut s v n at h = simp (lt-ltb _ _ h, pick-yes)
 
+-- a string that is there
 pub string-whole : (s : List ℕ) (v : Value) (n at : ℕ) → n ≤ length s - at → stringFrom s v n at ≡ Item.Is v (at + n)
 unfolding stringFrom
 string-whole s v n at h = simp (le-ltb _ _ h, pick-no)
 
--- a value by the major type of its head
+-- major type 0 is an unsigned number
 pub value-unsigned : (s : List ℕ) (n at : ℕ) → valueAfter s (Head.Is 0 n at) ≡ Item.Is (Unsigned n) at
 unfolding valueAfter pick
 value-unsigned s n at = refl
 
+-- major type 1 is a negative number
 pub value-negative : (s : List ℕ) (n at : ℕ) → valueAfter s (Head.Is 1 n at) ≡ Item.Is (Negative n) at
 unfolding valueAfter pick
 value-negative s n at = refl
 
+-- major type 2 is a string of bytes
 pub value-bytes : (s : List ℕ) (n at : ℕ) → valueAfter s (Head.Is 2 n at) ≡ stringFrom s (Value.Bytes at n) n at
 unfolding valueAfter pick
 value-bytes s n at = refl
 
+-- major type 3 is a text
 pub value-text : (s : List ℕ) (n at : ℕ) → valueAfter s (Head.Is 3 n at) ≡ stringFrom s (Value.Text at n) n at
 unfolding valueAfter pick
 value-text s n at = refl
 
+-- any other major type is malformed
 pub value-other : (s : List ℕ) (major n at : ℕ) → (major ≡ 0 → ⊥) → (major ≡ 1 → ⊥) → (major ≡ 2 → ⊥) → (major ≡ 3 → ⊥) → valueAfter s (Head.Is major n at) ≡ Item.Malformed
 unfolding valueAfter
 value-other s major n at a b c d = simp (ne-eqb _ _ a, ne-eqb _ _ b, ne-eqb _ _ c, ne-eqb _ _ d, pick-no)
 
+-- no head, no value
 pub value-none : (s : List ℕ) → valueAfter s Head.Malformed ≡ Item.Malformed
 unfolding valueAfter
 value-none s = refl
 
--- an item: past the end, false, true, null, and by its head
+-- past the end there is no item
 pub item-past : (s : List ℕ) (at : ℕ) → length s ≤ at → itemAt s at ≡ Item.Malformed
 unfolding itemAt
 item-past s at h = simp (le-ltb _ _ h, pick-yes)
 
+-- the byte F4 is false
 pub item-false : (s : List ℕ) (at : ℕ) → at < length s → getD s at 0 ≡ 0xF4 → itemAt s at ≡ Item.Is (Flag false) (at + 1)
 unfolding itemAt
 item-false s at h e = simp (lt-ltb _ _ h, eq-eqb _ _ e, pick-yes, pick-no)
 
+-- the byte F5 is true
 pub item-true : (s : List ℕ) (at : ℕ) → at < length s → getD s at 0 ≡ 0xF5 → itemAt s at ≡ Item.Is (Flag true) (at + 1)
 unfolding itemAt
 item-true s at h e =
     let a : getD s at 0 ≡ 0xF4 → ⊥ = omega arith in
     simp (lt-ltb _ _ h, ne-eqb _ _ a, eq-eqb _ _ e, pick-yes, pick-no)
 
+-- the byte F6 is null
 pub item-null : (s : List ℕ) (at : ℕ) → at < length s → getD s at 0 ≡ 0xF6 → itemAt s at ≡ Item.Is Null (at + 1)
 unfolding itemAt
 item-null s at h e =
@@ -120,14 +135,16 @@ item-null s at h e =
     let b : getD s at 0 ≡ 0xF5 → ⊥ = omega arith in
     simp (lt-ltb _ _ h, ne-eqb _ _ a, ne-eqb _ _ b, eq-eqb _ _ e, pick-yes, pick-no)
 
+-- any other item goes by its head
 pub item-head : (s : List ℕ) (at : ℕ) → at < length s → (getD s at 0 ≡ 0xF4 → ⊥) → (getD s at 0 ≡ 0xF5 → ⊥) → (getD s at 0 ≡ 0xF6 → ⊥) → itemAt s at ≡ valueAfter s (headAt s at)
 unfolding itemAt
 item-head s at h a b c = simp (lt-ltb _ _ h, ne-eqb _ _ a, ne-eqb _ _ b, ne-eqb _ _ c, pick-no)
 
--- the five low bits of a shortest head's initial byte, and how many bytes follow it
+-- the five low bits of a shortest head's initial byte
 unfoldable pub infoOf : ℕ → ℕ
 infoOf n = pick (ltb n 24) n (pick (ltb n 256) 24 (pick (ltb n 65536) 25 (pick (ltb n 4294967296) 26 27)))
 
+-- how many bytes follow a shortest head's initial byte
 unfoldable pub sizeOf : ℕ → ℕ
 sizeOf n = pick (ltb n 24) 0 (pick (ltb n 256) 1 (pick (ltb n 65536) 2 (pick (ltb n 4294967296) 4 8)))
 
@@ -143,28 +160,32 @@ head-form m n = ways (ltb n 24) (ltb n 256) (ltb n 65536) (ltb n 4294967296) m n
     ways false false false true m n = refl
     ways false false false false m n = refl
 
--- a shortest head's length, which no major type changes
+-- a shortest head's length
 pub head-size : (m n : ℕ) → length (headOf m n) ≡ suc (sizeOf n)
 head-size m n = ap length (head-form m n) ∙ ap suc (bytes-length (sizeOf n) n)
 
+-- no major type changes it
 pub head-length : (m n : ℕ) → length (headOf m n) ≡ length (headOf 0 n)
 head-length m n = head-size m n ∙ sym (head-size 0 n)
 
--- the five forms of a shortest head, by its argument
+-- an argument below 24
 pub form-tiny : (n : ℕ) → n < 24 → (infoOf n ≡ n) × (sizeOf n ≡ 0)
 unfolding infoOf sizeOf
 form-tiny n h = (simp (lt-ltb _ _ h, pick-yes), simp (lt-ltb _ _ h, pick-yes))
 
+-- an argument in one byte
 pub form-one : (n : ℕ) → 24 ≤ n → n < 256 → (infoOf n ≡ 24) × (sizeOf n ≡ 1)
 unfolding infoOf sizeOf
 form-one n h k = (simp (le-ltb _ _ h, lt-ltb _ _ k, pick-yes, pick-no), simp (le-ltb _ _ h, lt-ltb _ _ k, pick-yes, pick-no))
 
+-- an argument in two bytes
 pub form-two : (n : ℕ) → 256 ≤ n → n < 65536 → (infoOf n ≡ 25) × (sizeOf n ≡ 2)
 unfolding infoOf sizeOf
 form-two n h k =
     let a : 24 ≤ n = omega arith in
     (simp (le-ltb _ _ a, le-ltb _ _ h, lt-ltb _ _ k, pick-yes, pick-no), simp (le-ltb _ _ a, le-ltb _ _ h, lt-ltb _ _ k, pick-yes, pick-no))
 
+-- an argument in four bytes
 pub form-four : (n : ℕ) → 65536 ≤ n → n < 4294967296 → (infoOf n ≡ 26) × (sizeOf n ≡ 4)
 unfolding infoOf sizeOf
 form-four n h k =
@@ -172,6 +193,7 @@ form-four n h k =
     let b : 256 ≤ n = omega arith in
     (simp (le-ltb _ _ a, le-ltb _ _ b, le-ltb _ _ h, lt-ltb _ _ k, pick-yes, pick-no), simp (le-ltb _ _ a, le-ltb _ _ b, le-ltb _ _ h, lt-ltb _ _ k, pick-yes, pick-no))
 
+-- an argument in eight bytes
 pub form-eight : (n : ℕ) → 4294967296 ≤ n → (infoOf n ≡ 27) × (sizeOf n ≡ 8)
 unfolding infoOf sizeOf
 form-eight n h =
@@ -189,6 +211,7 @@ data Form : ℕ → Type 0 where
   tiny : {n : ℕ} → n < 24 → (infoOf n ≡ n) × (sizeOf n ≡ 0) → Form n
   wide : {n : ℕ} (k : ℕ) → k < 4 → n < 256 ^ (2 ^ k) → (infoOf n ≡ 24 + k) × (sizeOf n ≡ 2 ^ k) → Form n
 
+-- every argument has one of the forms
 form : (n : ℕ) → n < 2 ^ 64 → Form n
 form n h =
     elim (decLt n 24) [
@@ -262,7 +285,7 @@ wide-head pre x post m k h e =
     ∙ wide-back front x post m k h e
     ∙ ap (λ (n : ℕ). Head.Is m (beAfter 0 x) n) end
 
--- what is written is read back: the shortest head
+-- a shortest head of each form is read back
 by-form : (pre post : List ℕ) (m n : ℕ) → Form n → headAt (pre ++ (headOf m n ++ post)) (length pre) ≡ Head.Is m n (length pre + length (headOf m n))
 unfolding beBytes
 by-form pre post m n (tiny a e) = rw (head-as m n n 0 e) (byte-there pre post (m * 32 + n) ∙ tiny-back (pre ++ ((m * 32 + n) ∷ post)) m n (length pre + 1) a)
@@ -271,6 +294,7 @@ by-form pre post m n (wide k a fits e) =
     (wide-head pre (beBytes (2 ^ k) n) post m k a (bytes-length (2 ^ k) n)
     ∙ ap (λ (x : ℕ). Head.Is m x (length pre + suc (length (beBytes (2 ^ k) n)))) (number-back (2 ^ k) n fits))
 
+-- what is written is read back: the shortest head
 pub head-back : (pre post : List ℕ) (m n : ℕ) → m < 8 → n < 2 ^ 64 → headAt (pre ++ (headOf m n ++ post)) (length pre) ≡ Head.Is m n (length pre + length (headOf m n))
 head-back pre post m n h k = by-form pre post m n (form n k)
 
@@ -284,10 +308,11 @@ item-by-head pre post m n h k =
     item-head s (length pre) there (omega arith) (omega arith) (omega arith)
     ∙ ap (λ (x : Head). valueAfter s x) (head-back pre post m n (omega arith) k)
 
--- what is written is read back: an unsigned number, and strings of bytes and of text
+-- what is written is read back: an unsigned number
 pub unsigned-back : (pre post : List ℕ) (n : ℕ) → n < 2 ^ 64 → itemAt (pre ++ (headOf 0 n ++ post)) (length pre) ≡ Item.Is (Unsigned n) (length pre + length (headOf 0 n))
 unsigned-back pre post n h = item-by-head pre post 0 n (lit< tt) h ∙ value-unsigned (pre ++ (headOf 0 n ++ post)) n (length pre + length (headOf 0 n))
 
+-- a string under its head is read back as the value that the head says
 string-back : (pre x post : List ℕ) (m : ℕ) (v : Value) → m < 4 → length x < 2 ^ 64 → valueAfter (pre ++ (headOf m (length x) ++ (x ++ post))) (Head.Is m (length x) (length pre + length (headOf m (length x)))) ≡ stringFrom (pre ++ (headOf m (length x) ++ (x ++ post))) v (length x) (length pre + length (headOf m (length x))) → itemAt (pre ++ ((headOf m (length x) ++ x) ++ post)) (length pre) ≡ Item.Is v (length pre + length (headOf m (length x) ++ x))
 string-back pre x post m v h k e =
     let head : List ℕ = headOf m (length x) in
@@ -300,13 +325,15 @@ string-back pre x post m v h k e =
     ∙ string-whole s v (length x) (length pre + length head) (omega arith)
     ∙ ap (λ (n : ℕ). Item.Is v n) end
 
+-- what is written is read back: a string of bytes
 pub bytes-back : (pre x post : List ℕ) → length x < 2 ^ 64 → itemAt (pre ++ (bytesOf x ++ post)) (length pre) ≡ Item.Is (Value.Bytes (length pre + length (headOf 2 (length x))) (length x)) (length pre + length (bytesOf x))
 bytes-back pre x post h = string-back pre x post 2 (Value.Bytes (length pre + length (headOf 2 (length x))) (length x)) (lit< tt) h (value-bytes (pre ++ (headOf 2 (length x) ++ (x ++ post))) (length x) (length pre + length (headOf 2 (length x))))
 
+-- what is written is read back: a text
 pub text-back : (pre x post : List ℕ) → length x < 2 ^ 64 → itemAt (pre ++ (textOf x ++ post)) (length pre) ≡ Item.Is (Value.Text (length pre + length (headOf 3 (length x))) (length x)) (length pre + length (textOf x))
 text-back pre x post h = string-back pre x post 3 (Value.Text (length pre + length (headOf 3 (length x))) (length x)) (lit< tt) h (value-text (pre ++ (headOf 3 (length x) ++ (x ++ post))) (length x) (length pre + length (headOf 3 (length x))))
 
--- a head that was read ends after its place and within the bytes
+-- a head at a place ends after it and within the bytes
 head-within : (s : List ℕ) (at : ℕ) → HeadWithin s at (headAt s at)
 unfolding headAt headAfter
 head-within s at =
@@ -322,6 +349,7 @@ head-within s at =
     (λ k. (omega arith, omega (arith, ltb-true at (length s) h, ltb-false (length s - (at + 1)) (widthOf (b % 32)) k))))))
     (λ h. tt)
 
+-- so does a head that was read
 pub head-place : (s : List ℕ) (at m n next : ℕ) → headAt s at ≡ Head.Is m n next → (at < next) × (next ≤ length s)
 head-place s at m n next e = rw e at (head-within s at)
 
@@ -333,11 +361,12 @@ argument-bound s at w h small =
     let bound : beAfter 0 x < (0 + 1) * 256 ^ length x = read-bound 0 x (bytes-take w (drop at s) (bytes-drop at s small)) in
     eight-bytes (beAfter 0 x) (length x) (omega arith) (omega arith)
 
--- the major type and the argument of a head that was read out of bytes
+-- a major type below 8 and an argument below 2^64
 HeadSmall : Head → Type 0
 HeadSmall Head.Malformed = Unit {0}
 HeadSmall (Head.Is major n next) = (major < 8) × (n < 2 ^ 64)
 
+-- a head of bytes has such parts
 head-bounds : (s : List ℕ) (at : ℕ) → Bytes s → HeadSmall (headAt s at)
 unfolding headAt headAfter HeadSmall
 head-bounds s at small =
@@ -353,6 +382,7 @@ head-bounds s at small =
     (λ k. (omega arith, argument-bound s (at + 1) (widthOf (b % 32)) (width-most (b % 32) (ltb-false 27 (b % 32) j)) small)))))
     (λ h. tt)
 
+-- so has a head that was read
 pub head-small-parts : (s : List ℕ) (at m n next : ℕ) → Bytes s → headAt s at ≡ Head.Is m n next → (m < 8) × (n < 2 ^ 64)
 unfolding HeadSmall
 head-small-parts s at m n next small e = rw e at (head-bounds s at small)
@@ -365,6 +395,7 @@ string-within s from at n v h k inside =
     (λ i. tt)
     (λ i. (omega arith, omega (arith, ltb-false (length s - at) n i), inside (ltb-false (length s - at) n i)))
 
+-- a value after a head within the bytes is within them
 value-within : (s : List ℕ) (from : ℕ) (h : Head) → HeadWithin s from h → ItemWithin s from (valueAfter s h)
 unfolding valueAfter
 value-within s from Head.Malformed w = tt
@@ -382,7 +413,7 @@ value-within s from (Head.Is major n at) w =
     (λ l. string-within s from at n (Value.Text at n) later fits (λ l. omega arith))
     (λ l. tt))))
 
--- an item that was read ends after its place and within the bytes, and so does its string
+-- an item at a place ends after it and within the bytes, and so does its string
 pub item-within : (s : List ℕ) (at : ℕ) → ItemWithin s at (itemAt s at)
 unfolding itemAt
 item-within s at =
@@ -398,5 +429,6 @@ item-within s at =
     (λ k. (omega arith, omega (arith, ltb-true at (length s) (not-false (ltb at (length s)) h)), tt))
     (λ k. value-within s at (headAt s at) (head-within s at)))))
 
+-- so does an item that was read
 pub item-place : (s : List ℕ) (at : ℕ) (v : Value) (next : ℕ) → itemAt s at ≡ Item.Is v next → (at < next) × (next ≤ length s) × Inside s v
 item-place s at v next e = rw e at (item-within s at)

@@ -109,13 +109,14 @@ pasted-before m j b x h =
     sum : (j : ℕ) (x : List ℕ) → j + 1 + length x ≡ j + suc (length x)
     sum j x = omega arith
 
--- nothing is written yet, and nothing is taken off the number
+-- nothing is written yet
 pub write-none : (m : List ℕ) (at w n : ℕ) → m ≡ pasted m at (beBytes (w - w) n)
 unfolding beBytes
 write-none m at w n =
     let e : w - w ≡ 0 = omega arith in
     rw e (sym (pasted-none m at))
 
+-- nothing is taken off the number yet
 pub left-none : (w n : ℕ) → n ≡ n / 256 ^ (w - w)
 left-none w n =
     let e : w - w ≡ 0 = omega arith in

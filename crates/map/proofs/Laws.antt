@@ -53,30 +53,33 @@ pair-back kind pre k rest f v next small known absent type item =
 value-there : (pre key value post : List ℕ) (i : Item) → itemAt ((pre ++ key) ++ (value ++ post)) (length (pre ++ key)) ≡ i → itemAt (pre ++ (key ++ (value ++ post))) (length pre + length key) ≡ i
 value-there pre key value post i e = ap₂ (λ (l : List ℕ) (at : ℕ). itemAt l at) (sym (append-assoc pre key (value ++ post))) (sym (length-append pre key)) ∙ e
 
--- a pair with an unsigned number, with bytes, and with a text
+-- a pair with an unsigned number
 pub pair-unsigned : (kind : Kind) (pre k post : List ℕ) (f : Fields) (n : ℕ) → length k < 2 ^ 64 → n < 2 ^ 64 → listed (keyOf kind k) ≡ true → fieldAt (keyOf kind k) f ≡ Absent → typeFor (keyOf kind k) ≡ 0 → pairAt kind (pre ++ (textOf k ++ (unsigned n ++ post))) (length pre) f ≡ Next (length (pre ++ textOf k) + length (unsigned n)) (withField (keyOf kind k) (Is (Unsigned n)) f)
 unfolding typeOf
 pair-unsigned kind pre k post f n small fits known absent type =
     pair-back kind pre k (unsigned n ++ post) f (Unsigned n) (length (pre ++ textOf k) + length (unsigned n)) small known absent (sym type)
     (value-there pre (textOf k) (unsigned n) post _ (unsigned-back (pre ++ textOf k) post n fits))
 
+-- a pair with a string of bytes
 pub pair-bytes : (kind : Kind) (pre k x post : List ℕ) (f : Fields) → length k < 2 ^ 64 → length x < 2 ^ 64 → listed (keyOf kind k) ≡ true → fieldAt (keyOf kind k) f ≡ Absent → typeFor (keyOf kind k) ≡ 2 → pairAt kind (pre ++ (textOf k ++ (bytesOf x ++ post))) (length pre) f ≡ Next (length (pre ++ textOf k) + length (bytesOf x)) (withField (keyOf kind k) (Is (Value.Bytes (length (pre ++ textOf k) + length (headOf 2 (length x))) (length x))) f)
 unfolding typeOf
 pair-bytes kind pre k x post f small fits known absent type =
     pair-back kind pre k (bytesOf x ++ post) f (Value.Bytes (length (pre ++ textOf k) + length (headOf 2 (length x))) (length x)) (length (pre ++ textOf k) + length (bytesOf x)) small known absent (sym type)
     (value-there pre (textOf k) (bytesOf x) post _ (bytes-back (pre ++ textOf k) x post fits))
 
+-- a pair with a text
 pub pair-text : (kind : Kind) (pre k x post : List ℕ) (f : Fields) → length k < 2 ^ 64 → length x < 2 ^ 64 → listed (keyOf kind k) ≡ true → fieldAt (keyOf kind k) f ≡ Absent → typeFor (keyOf kind k) ≡ 3 → pairAt kind (pre ++ (textOf k ++ (textOf x ++ post))) (length pre) f ≡ Next (length (pre ++ textOf k) + length (textOf x)) (withField (keyOf kind k) (Is (Value.Text (length (pre ++ textOf k) + length (headOf 3 (length x))) (length x))) f)
 unfolding typeOf
 pair-text kind pre k x post f small fits known absent type =
     pair-back kind pre k (textOf x ++ post) f (Value.Text (length (pre ++ textOf k) + length (headOf 3 (length x))) (length x)) (length (pre ++ textOf k) + length (textOf x)) small known absent (sym type)
     (value-there pre (textOf k) (textOf x) post _ (text-back (pre ++ textOf k) x post fits))
 
--- the walk goes on over a pair that was read back, and ends where the bytes do
+-- the walk goes on over a pair that was read back
 pub walk-on : (kind : Kind) (s : List ℕ) (n at : ℕ) (f : Fields) (next : ℕ) (g : Fields) → pairAt kind s at f ≡ Next next g → walk kind s (suc n) at f ≡ walk kind s n next g
 unfolding walk afterPair
 walk-on kind s n at f next g e = ap (λ (p : Paired). afterPair p (λ at′ f′. walk kind s n at′ f′)) e
 
+-- the walk ends where the bytes do
 pub walk-done : (kind : Kind) (s : List ℕ) (f : Fields) → walk kind s 0 (length s) f ≡ Map f
 walk-done kind s f = walk-end kind s 0 (length s) f refl refl
 

@@ -60,11 +60,12 @@ field-sound s Key.Slot f o = o .slot
 field-sound s Key.Rc f o = o .rc
 field-sound s Key.Other f o = tt
 
--- of a map that was read, and of a pair
+-- every field of a map that was read is sound
 WalkedSound : List ℕ → Walked → Type 0
 WalkedSound s Walked.Malformed = Unit {0}
 WalkedSound s (Map f) = Sound s f
 
+-- every field after a pair is sound
 PairedSound : List ℕ → Paired → Type 0
 PairedSound s Paired.Malformed = Unit {0}
 PairedSound s (Next at f) = Sound s f
@@ -82,17 +83,19 @@ entered-sound s k v f inside o =
     (λ e. tt)))
     (λ h. o)
 
--- a pair's end, its value, and a pair
+-- a pair's end
 end-sound : (s : List ℕ) (next : ℕ) (w : Walked) → WalkedSound s w → PairedSound s (pairEnd next w)
 unfolding pairEnd WalkedSound PairedSound
 end-sound s next Walked.Malformed o = tt
 end-sound s next (Map f) o = o
 
+-- a pair's value
 value-sound : (s : List ℕ) (at : ℕ) (k : Key) (f : Fields) (i : Item) → ItemWithin s at i → Sound s f → PairedSound s (pairValue k f i)
 unfolding pairValue PairedSound
 value-sound s at k f Item.Malformed w o = tt
 value-sound s at k f (Item.Is v next) w o = end-sound s next (entered k v f) (entered-sound s k v f (w .2) o)
 
+-- a pair after the head of its key
 after-sound : (kind : Kind) (s : List ℕ) (f : Fields) (h : Head) → Sound s f → PairedSound s (pairAfter kind s f h)
 unfolding pairAfter PairedSound
 after-sound kind s f Head.Malformed o = tt
@@ -104,23 +107,25 @@ after-sound kind s f (Head.Is major n at) o =
     (λ i. tt)
     (λ i. value-sound s (at + n) (keyOf kind (take n (drop at s))) f (itemAt s (at + n)) (item-within s (at + n)) o))
 
--- what follows a pair, and a walk
+-- what follows a pair
 go-sound : (s : List ℕ) (p : Paired) (go : ℕ → Fields → Walked) → PairedSound s p → ((at : ℕ) (f : Fields) → Sound s f → WalkedSound s (go at f)) → WalkedSound s (afterPair p go)
 unfolding afterPair PairedSound WalkedSound
 go-sound s Paired.Malformed go o each = tt
 go-sound s (Next at f) go o each = each at f o
 
+-- a walk
 walk-sound : (kind : Kind) (s : List ℕ) (n at : ℕ) (f : Fields) → Sound s f → WalkedSound s (walk kind s n at f)
 unfolding walk WalkedSound pairAt
 walk-sound kind s zero at f o = pick-case (λ w. WalkedSound s w) (eqb at (length s)) _ _ (λ h. o) (λ h. tt)
 walk-sound kind s (suc n) at f o = go-sound s (pairAt kind s at f) (λ at′ f′. walk kind s n at′ f′) (after-sound kind s f (headAt s at) o) (λ at′ f′ o′. walk-sound kind s n at′ f′ o′)
 
--- a packet's map
+-- a map after its head
 head-sound : (kind : Kind) (s : List ℕ) (h : Head) → WalkedSound s (mapAfter kind s h)
 unfolding mapAfter WalkedSound
 head-sound kind s Head.Malformed = tt
 head-sound kind s (Head.Is major n at) = pick-case (λ w. WalkedSound s w) (eqb major 5) _ _ (λ h. walk-sound kind s n at nothing (nothing-sound s)) (λ h. tt)
 
+-- a packet's map
 map-sound : (kind : Kind) (s : List ℕ) (from : ℕ) → WalkedSound s (mapFrom kind s from)
 unfolding mapFrom WalkedSound
 map-sound kind s from = pick-case (λ w. WalkedSound s w) (eqb (length s) from) _ _ (λ h. nothing-sound s) (λ h. head-sound kind s (headAt s from))
@@ -130,6 +135,7 @@ pub map-fields : (kind : Kind) (s : List ℕ) (from : ℕ) (f : Fields) → mapF
 unfolding WalkedSound
 map-fields kind s from f e = rw e at (map-sound kind s from)
 
+-- one field of a map that was read, by its key
 map-field : (kind : Kind) (s : List ℕ) (from : ℕ) (f : Fields) (k : Key) (v : Value) → mapFrom kind s from ≡ Map f → fieldAt k f ≡ Is v → (typeOf v ≡ typeFor k) × Inside s v
 map-field kind s from f k v e there = rw there at (field-sound s k f (map-fields kind s from f e))
 

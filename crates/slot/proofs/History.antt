@@ -2,23 +2,25 @@
 -- and while a session is open these are the data written since its start and then 255s.
 -- Assumes nothing.
 use mathlib.Core.Path.{_≡_, refl, sym, ap, ap₂, _∙_}
-use mathlib.Core.Bool.{Bool, true, false, false≢true}
+use mathlib.Core.Bool.{true, false, false≢true}
 use mathlib.Core.List.{List, [], _∷_, _++_, append-assoc, append-nil}
-use Prim.Native.Nat.{ℕ, _+_, _-_, _≤_, _<_}
-use native.Mathlib.Nat.{add-zero, zero-add}
+use Prim.Native.Nat.{ℕ, _+_, _-_, _≤_}
+use native.Mathlib.Nat.{add-zero}
 use native.Mathlib.Omega.{arith}
-use lib.ListN.{length, take, drop, replicate, length-append, length-take, length-drop, length-replicate, take-append-drop, replicate-append-replicate, drop-of-length-le}
+use lib.ListN.{length, take, drop, replicate, length-append, length-drop, length-replicate, take-append-drop, replicate-append-replicate, drop-of-length-le}
 use lib.Seq.{take-at, drop-at, take-add, drop-drop, length-take-le, take-append-add, take-append-le, drop-append-add, drop-append-le}
 use Rattle.laws.specs.Bytes.{pasted}
 use Rattle.laws.proofs.Lists.{pasted-is, pasted-start, pasted-length, pasted-take, pasted-drop}
 use Rattle.slot.specs.declared.Slot.{Slot}
-use Rattle.slot.specs.declared.Session.{Session}
 use Rattle.slot.specs.Session.{regionOk, sessionOk, closed}
-use Rattle.slot.specs.Act.{State, Act, keep, append, start, erase, end, blank, grown, done}
+use Rattle.slot.specs.declared.Upload.{Upload}
+use Rattle.slot.specs.Plan.{planOf}
+use Rattle.slot.specs.Act.{State, Act, keep, append, start, erase, end, blank, done, actOf}
 use Rattle.slot.specs.History.{Fit, History, begun, went, written, slotIn, Held, Demand, CutFrom, unbroken, Unbroken}
+use Rattle.slot.proofs.Fit.{planned-fit}
 use Rattle.slot.proofs.Laws.{region-bounds, session-bounds, session-is, session-closed}
 
--- what is left of equal bytes after some of them
+-- equal bytes without the first of them
 drop-replicate : (k n v : ℕ) → k ≤ n → drop k (replicate n v) ≡ replicate (n - k) v
 drop-replicate k n v h =
     let e : k + (n - k) ≡ n = omega arith in
@@ -44,14 +46,14 @@ pasted-within f a t k x room h =
         rw (pasted-is (p ++ (t ++ q)) (length p + k) x, pasted-is t k x, e, take-append-add p (t ++ q) k, drop-append-add p (t ++ q) (k + length x), take-append-le k t q (omega arith), drop-append-le (k + length x) t q h)
         (simp append-assoc)
 
--- the same at the part's start
+-- writing at the start of such a part
 pasted-at-start : (f : List ℕ) (a : ℕ) (t x : List ℕ) → a + length t ≤ length f → length x ≤ length t → pasted (pasted f a t) a x ≡ pasted f a (x ++ drop (length x) t)
 pasted-at-start f a t x room h =
     ap (λ (i : ℕ). pasted (pasted f a t) i x) (sym (add-zero a))
     ∙ pasted-within f a t 0 x room (omega arith)
     ∙ ap (λ (l : List ℕ). pasted f a l) (pasted-start t x)
 
--- the same over the whole part
+-- writing over the whole of such a part
 pasted-over : (f : List ℕ) (a : ℕ) (t x : List ℕ) → a + length t ≤ length f → length x ≡ length t → pasted (pasted f a t) a x ≡ pasted f a x
 pasted-over f a t x room h =
     pasted-at-start f a t x room (omega arith)
@@ -94,6 +96,10 @@ held-by slot first acts st t room n e possible joined after =
       blank-after = λ r. ap (λ (l : List ℕ). drop (st .session .place) l) whole ∙ after r;
     }
 
+-- what is demanded only of an open session holds of a closed one
+never : {A : Type 0} → false ≡ true → A
+never e = absurd (false≢true e)
+
 -- a closed first state is as demanded
 pub begun-held : (slot : Slot) (first : State) → first .session .running ≡ false → Held slot first [] first
 begun-held slot first e =
@@ -102,15 +108,11 @@ begun-held slot first e =
       beyond = refl;
       size = refl;
       possible = session-closed slot (first .session) e;
-      joined = λ r. absurd (false≢true (sym e ∙ r));
-      blank-after = λ r. absurd (false≢true (sym e ∙ r));
+      joined = λ r. never (sym e ∙ r);
+      blank-after = λ r. never (sym e ∙ r);
     }
 
--- a session that is closed demands nothing of the slot's bytes
-never : {A : Type 0} → false ≡ true → A
-never e = absurd (false≢true e)
-
--- the slot made blank
+-- a blank slot is the first memory with 255s in the slot's place
 blanked : (slot : Slot) (f m : List ℕ) (t : List ℕ) → slot .start + slot .size ≤ length f → length t ≡ slot .size → m ≡ pasted f (slot .start) t → blank slot m ≡ pasted f (slot .start) (replicate (slot .size) 255)
 unfolding blank
 blanked slot f m t room n e =
@@ -118,7 +120,7 @@ blanked slot f m t room n e =
     ap (λ (l : List ℕ). pasted l (slot .start) full) e
     ∙ pasted-over f (slot .start) t full (omega arith) (length-replicate (slot .size) 255 ∙ sym n)
 
--- equal bytes with x in their first places
+-- 255s with x in their first places are as many as before
 begun-with : (n : ℕ) (x : List ℕ) → length x ≤ n → length (x ++ drop (length x) (replicate n 255)) ≡ n
 begun-with n x h = rw (length-append, length-drop, length-replicate) (omega arith)
 
@@ -147,7 +149,7 @@ step-held slot first acts st (append x) region h fit =
     held-by slot first (append x ∷ acts) (done slot (append x) st) (pasted t n x) (r .inside)
     (pasted-length t n x room ∙ p .0)
     (ap (λ (m : List ℕ). pasted m (slot .start + n) x) (p .1) ∙ pasted-within (first .memory) (slot .start) t n x (omega arith) room)
-    (session-is slot (grown (st .session) (length x)) (b .some) (b .within) (omega arith) (omega arith))
+    (session-is slot (done slot (append x) st .session) (b .some) (b .within) (omega arith) (omega arith))
     (λ _. pasted-take t n x room ∙ ap (λ (l : List ℕ). l ++ x) (h .joined (fit .0)))
     (λ _. still-blank (slot .size) t n x (p .0) room (h .blank-after (fit .0)))
 step-held slot first acts st (start l tagged tag x) region h fit =
@@ -160,7 +162,7 @@ step-held slot first acts st (start l tagged tag x) region h fit =
     (begun-with (slot .size) x (omega arith))
     (ap (λ (m : List ℕ). pasted m (slot .start) x) (blanked slot f (st .memory) (slotIn slot (st .memory)) (r .inside) (p .0) (p .1))
     ∙ pasted-at-start f (slot .start) full x (omega arith) (omega arith))
-    (session-is slot (record { running = true; length = l; place = length x; tagged = tagged; tag = tag }) (omega arith) (fit .2) (fit .0) (fit .1))
+    (session-is slot (done slot (start l tagged tag x) st .session) (omega arith) (fit .2) (fit .0) (fit .1))
     (λ _. take-at x (drop (length x) full) (length x) refl)
     (λ _. drop-at x (drop (length x) full) (length x) refl ∙ drop-replicate (length x) (slot .size) 255 (omega arith))
 step-held slot first acts st erase region h fit =
@@ -174,6 +176,10 @@ step-held slot first acts st erase region h fit =
     never
 step-held slot first acts st end region h fit =
     record { below = h .below; beyond = h .beyond; size = h .size; possible = session-closed slot closed refl; joined = never; blank-after = never }
+
+-- an upload request more, whatever the rules come to
+pub upload-held : (slot : Slot) (first : State) (acts : List Act) (st : State) (u : Upload) (x : List ℕ) → regionOk slot (length (first .memory)) ≡ true → Held slot first acts st → length x ≡ u .size → Held slot first (actOf u x (planOf slot (st .session) u) ∷ acts) (done slot (actOf u x (planOf slot (st .session) u)) st)
+upload-held slot first acts st u x region h size = step-held slot first acts st (actOf u x (planOf slot (st .session) u)) region h (planned-fit slot (st .session) u x (h .possible) size)
 
 -- "in any history": by its acts, one at a time
 pub demand : Demand
@@ -197,6 +203,14 @@ cut-joined image (start l tagged tag x ∷ acts) cut = cut
 cut-joined image (erase ∷ acts) cut = refl
 cut-joined image (end ∷ acts) cut = refl
 
+-- an open session's place is the count of the bytes written since its start
+pub written-length : (slot : Slot) (first : State) (acts : List Act) (st : State) → regionOk slot (length (first .memory)) ≡ true → Held slot first acts st → st .session .running ≡ true → length (written acts) ≡ st .session .place
+written-length slot first acts st region h running =
+    let r = region-bounds slot (length (first .memory)) region in
+    let b = session-bounds slot (st .session) (h .possible) running in
+    let p = placed slot (first .memory) (st .memory) (r .inside) (h .size) (h .below) (h .beyond) in
+    ap length (sym (h .joined running)) ∙ length-take-le (st .session .place) (slotIn slot (st .memory)) (omega arith)
+
 -- the demand's last sentence, of a state that is as demanded
 pub held-unbroken : (slot : Slot) (first : State) (acts : List Act) (st : State) (image : List ℕ) → regionOk slot (length (first .memory)) ≡ true → Held slot first acts st → st .session .running ≡ true → CutFrom image acts → st .memory ≡ unbroken slot (first .memory) image (st .session .place)
 unfolding blank
@@ -209,7 +223,7 @@ held-unbroken slot first acts st image region h running cut =
     let n = st .session .place in
     let full : List ℕ = replicate (slot .size) 255 in
     let all : length full ≡ slot .size = length-replicate (slot .size) 255 in
-    let w : length (written acts) ≡ n = ap length (sym (h .joined running)) ∙ length-take-le n t (omega arith) in
+    let w : length (written acts) ≡ n = written-length slot first acts st region h running in
     let y : written acts ≡ take n image = cut-joined image acts cut ∙ ap (λ (i : ℕ). take i image) w in
     let k : length (take n image) ≡ n = ap length (sym y) ∙ w in
     p .1
@@ -218,5 +232,6 @@ held-unbroken slot first acts st image region h running cut =
     ∙ ap₂ (λ (u v : List ℕ). u ++ v) (h .joined running ∙ y) (h .blank-after running ∙ sym (drop-replicate n (slot .size) 255 (omega arith)) ∙ ap (λ (i : ℕ). drop i full) (sym k)))
     ∙ sym (pasted-at-start f (slot .start) full (take n image) (omega arith) (omega arith))
 
+-- the demand's last sentence, in any history
 pub as-unbroken : Unbroken
 as-unbroken slot first acts st image region e history running cut = held-unbroken slot first acts st image region (demand slot first acts st region e history) running cut

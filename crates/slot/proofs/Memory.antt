@@ -1,39 +1,39 @@
 -- What the acts do to the memory, in the terms that the code leaves: a slot set to 255, data put at its place.
 -- Assumes nothing.
-use mathlib.Core.Path.{_≡_, refl, sym, ap, ap₂, _∙_}
-use mathlib.Core.Bool.{Bool, true, false}
-use mathlib.Core.List.{List, [], _++_}
-use Prim.Native.Nat.{ℕ, _+_, _-_, _≤_, _<_}
+use mathlib.Core.Path.{_≡_}
+use mathlib.Core.Bool.{true}
+use mathlib.Core.List.{List, _++_}
+use Prim.Native.Nat.{ℕ, _+_, _-_, _≤_}
 use native.Mathlib.Omega.{arith}
-use lib.ListN.{length, take, drop, replicate, length-take, length-drop, length-replicate}
+use lib.ListN.{length, take, drop, replicate, length-drop, length-replicate}
 use lib.Seq.{drop-drop, length-take-le}
-use Rattle.laws.specs.Bytes.{pasted}
 use Rattle.laws.proofs.Lists.{pasted-is, pasted-length}
 use Rattle.slot.specs.declared.Slot.{Slot}
 use Rattle.slot.specs.declared.Session.{Session}
 use Rattle.slot.specs.Session.{regionOk, sessionOk}
-use Rattle.slot.specs.Act.{Act, append, blank}
+use Rattle.slot.specs.Act.{append, blank}
 use Rattle.slot.specs.History.{Fit}
 use Rattle.slot.proofs.Laws.{region-bounds, session-bounds}
 
 -- the slot's part set to 255, seen in the whole
-pub cleared : (slot : Slot) (m ys : List ℕ) → slot .start + slot .size ≤ length m → ys ≡ replicate (length (take (slot .start + slot .size - slot .start) (drop (slot .start) m))) 255 → take (slot .start) m ++ (ys ++ drop (slot .start + slot .size - slot .start) (drop (slot .start) m)) ≡ blank slot m
+pub cleared : (slot : Slot) (e : ℕ) (m ys : List ℕ) → e ≡ slot .start + slot .size → e ≤ length m → ys ≡ replicate (length (take (e - slot .start) (drop (slot .start) m))) 255 → take (slot .start) m ++ (ys ++ drop (e - slot .start) (drop (slot .start) m)) ≡ blank slot m
 unfolding blank
-cleared slot m ys h e =
-    let w : slot .start + slot .size - slot .start ≡ slot .size = omega arith in
+cleared slot e m ys at room filled =
+    let w : e - slot .start ≡ slot .size = omega arith in
     let n : length (take (slot .size) (drop (slot .start) m)) ≡ slot .size = length-take-le (slot .size) (drop (slot .start) m) (simp length-drop (omega arith)) in
-    rw (e, w, n, pasted-is, length-replicate, drop-drop)
+    rw (filled, w, n, pasted-is, length-replicate, drop-drop)
 
 -- a memory with a blank slot is as long as before
 pub blank-length : (slot : Slot) (m : List ℕ) → slot .start + slot .size ≤ length m → length (blank slot m) ≡ length m
 unfolding blank
 blank-length slot m h = pasted-length m (slot .start) (replicate (slot .size) 255) (simp length-replicate (omega arith))
 
--- where data is added, memory and slot have room for it
+-- there is room for n bytes more in a memory of m bytes, and in the largest slot
 pub record Room (slot : Slot) (s : Session) (n m : ℕ) : Type 0 where
   pub in-memory : slot .start + s .place + n ≤ m
   pub in-slot : s .place + n ≤ 1048576
 
+-- where data is added there is room for it
 pub append-room : (slot : Slot) (s : Session) (x : List ℕ) (m : ℕ) → regionOk slot m ≡ true → sessionOk slot s ≡ true → Fit slot s (append x) → Room slot s (length x) m
 unfolding Fit
 append-room slot s x m r e f =

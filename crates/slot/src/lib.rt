@@ -2,9 +2,8 @@
 use refusal::Refusal;
 ghost use mathlib.Core.Path.{_≡_};
 ghost use mathlib.Core.Bool.{true, not};
-ghost use mathlib.Core.List.{List};
-ghost use Prim.Native.Nat.{ℕ, _+_, _≤_, _<_};
-ghost use lib.Dec.{eqb};
+ghost use Prim.Native.Nat.{_+_, _-_, _^_, _≤_, _<_};
+ghost use lib.Dec.{ltb, eqb};
 ghost use lib.ListN.{length};
 ghost use Rattle.laws.specs.Choice.{both};
 ghost use Rattle.slot.specs.Session.{regionOk, sessionOk, closed, said, configured};
@@ -223,6 +222,14 @@ fn clashes(same: bool, length: usize, other: usize) -> bool
     length != other
 }
 
+// Whether data of this size at the session's place ends beyond its length. The sum of place and size could wrap, so none is made.
+fn ends_beyond(session: Session, size: usize) -> bool
+    requires { ⌜ session .place ≤ session .length ⌝ }
+    ensures { λ r. ⌜ r ≡ ltb (session .length - session .place) size ⌝ }
+{
+    session.length - session.place < size
+}
+
 // What a request with an offset above 0 comes to.
 fn plan_later(session: Session, upload: Upload) -> Plan
     requires { ⌜ (session .running ≡ true → session .place ≤ session .length) ⌝ }
@@ -235,7 +242,8 @@ fn plan_later(session: Session, upload: Upload) -> Plan
     if upload.off != place as u64 {
         return Plan::Tell(place);
     }
-    if session.length - place < upload.size {
+    let beyond = ends_beyond(session, upload.size);
+    if beyond {
         return Plan::Refuse(3);
     }
     Plan::Append
@@ -320,13 +328,21 @@ pub fn plan_upload(slot: Slot, session: Session, upload: Upload) -> Plan
     plan_first(slot, session, upload)
 }
 
+// The place after the slot's last byte.
+fn slot_end(slot: Slot) -> usize
+    requires { ⌜ slot .start + slot .size < 2 ^ 64 ⌝ }
+    ensures { λ r. ⌜ r ≡ slot .start + slot .size ⌝ }
+{
+    slot.start + slot.size
+}
+
 // Sets every byte of the slot to 255.
 fn clear(slot: Slot, memory: &mut [u8])
     requires { ⌜ regionOk slot (length (now memory)) ≡ true ⌝ }
     ensures { λ _. ⌜ now (memory .exit) ≡ blank slot (now (memory .entry)) ⌝ }
 {
     let a = slot.start;
-    let e = a + slot.size;
+    let e = slot_end(slot);
     laws::fill(&mut memory[a..e], 255);
 }
 

@@ -7,48 +7,34 @@ use lib.ListN.{length, length-take, length-drop}
 use Rattle.laws.proofs.Lists.{copied-part}
 use Rattle.slot.specs.Act.{done}
 use Rattle.slot.specs.State.{stateOf}
-use Rattle.slot.proofs.Memory.{append-room}
+use Rattle.slot.proofs.Memory.{Room, append-room}
 use borrow.Author.Needs.{needs}
 use Rattle.slot.proofs.append.Statement.{statement}
 use Rattle.slot.proofs.append.Tie as tie
 
+-- at the function's entry: memory and slot have room for the data
+room : (c : tie.Start) → Room (c .args .slot) (c .args .session) (length (c .args .«data» .now)) (length (c .args .memory .now))
+room c =
+    let a = c .args in
+    append-room (a .slot) (a .session) (a .«data» .now) (length (a .memory .now)) (c .pre .0) (c .pre .1 .0) (c .pre .1 .1)
+
 add-at : tie.Need-add-at
-add-at c =
-    let a = c .before .before .before .before .args in
-    let p = c .before .before .before .before .pre in
-    let r = append-room (a .slot) (a .session) (a .«data» .now) (length (a .memory .now)) (p .0) (p .1 .0) (p .1 .1) in
-    omega arith
+add-at c = omega (arith, room (c .before .before .before .before))
 
 sub-copy : tie.Need-sub-copy
-sub-copy c =
-    let a = c .before .before .before .before .args in
-    let p = c .before .before .before .before .pre in
-    let r = append-room (a .slot) (a .session) (a .«data» .now) (length (a .memory .now)) (p .0) (p .1 .0) (p .1 .1) in
-    omega arith
+sub-copy c = omega (arith, room (c .before .before .before .before))
 
 part-copy-start : tie.Need-part-copy-start
-part-copy-start c =
-    let a = c .before .before .before .before .args in
-    let p = c .before .before .before .before .pre in
-    let r = append-room (a .slot) (a .session) (a .«data» .now) (length (a .memory .now)) (p .0) (p .1 .0) (p .1 .1) in
-    omega arith
+part-copy-start c = omega (arith, room (c .before .before .before .before))
 
 part-copy-end : tie.Need-part-copy-end
-part-copy-end c = search needs
+part-copy-end c = omega (arith, room (c .before .before .before .before))
 
 copy-requires : tie.Need-copy-requires
-copy-requires c κs =
-    let a = c .before .before .before .before .before .args in
-    let p = c .before .before .before .before .before .pre in
-    let r = append-room (a .slot) (a .session) (a .«data» .now) (length (a .memory .now)) (p .0) (p .1 .0) (p .1 .1) in
-    simp (length-take, length-drop) (omega arith)
+copy-requires c κs = simp (length-take, length-drop) (omega (arith, room (c .before .before .before .before .before)))
 
 grow-requires : tie.Need-grow-requires
-grow-requires c κs =
-    let a = c .before .before .before .before .before .before .before .before .args in
-    let p = c .before .before .before .before .before .before .before .before .pre in
-    let r = append-room (a .slot) (a .session) (a .«data» .now) (length (a .memory .now)) (p .0) (p .1 .0) (p .1 .1) in
-    r .in-slot
+grow-requires c κs = room (c .before .before .before .before .before .before .before .before) .in-slot
 
 same-length : tie.Need-same-length
 same-length c = search needs
@@ -57,8 +43,9 @@ returns : tie.Need-returns
 unfolding done
 returns c =
     let a = c .before .before .before .before .before .before .before .before .before .args in
+    let copied = c .before .before .before .copy in
     ap₂ stateOf
-    (copied-part (a .memory .now) (a .slot .start + a .session .place) (a .«data» .now) (c .before .before .before .copy .last .1 .0) (c .before .before .before .copy .ensures .1))
+    (copied-part (a .memory .now) (a .slot .start + a .session .place) (a .«data» .now) (copied .last .1 .0) (copied .ensures .1))
     (c .grow .ensures)
 
 pub append-spec : {M : Type 1} → statement M

@@ -37,7 +37,7 @@ returns-4 : tie.Need-returns-4
 returns-4 c =
     let a = c .before .before .before .before .before .before .before .before .before .before .before .args in
     let there = sym (c .before .before .before .before .before .before .is-whole .ensures) ∙ not-false (c .before .before .before .before .before .before .is-whole .result) (c .before .before .before .before .before .if3 .left) in
-    c .equal .ensures ∙ sym (tag-compared (a .session) (a .upload) (not-false (c .before .before .before .before .before .before .before .before .before .before .before .args .session .running) (c .before .before .before .before .before .before .before .before .before .if1 .left)) (not-false (c .before .before .before .before .before .before .before .before .before .before .before .args .session .tagged) (c .before .before .before .before .before .before .before .if2 .left)) there)
+    c .equal .ensures ∙ sym (tag-compared (a .session) (a .upload) (not-false (a .session .running) (c .before .before .before .before .before .before .before .before .before .if1 .left)) (not-false (a .session .tagged) (c .before .before .before .before .before .before .before .if2 .left)) there)
 
 pub has-same-tag-spec : {M : Type 1} → statement M
 has-same-tag-spec =

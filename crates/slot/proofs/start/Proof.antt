@@ -2,9 +2,9 @@
 -- Assumes nothing.
 use mathlib.Core.Path.{ap, ap₂, _∙_}
 use mathlib.Core.List.{List}
-use Prim.Native.Nat.{ℕ}
+use Prim.Native.Nat.{ℕ, _+_, _≤_}
 use native.Mathlib.Omega.{arith}
-use lib.ListN.{length-take, length-drop}
+use lib.ListN.{length, length-take, length-drop}
 use Rattle.laws.specs.Bytes.{pasted}
 use Rattle.laws.proofs.Lists.{copied-part}
 use Rattle.slot.specs.Act.{done}
@@ -14,29 +14,26 @@ use borrow.Author.Needs.{needs}
 use Rattle.slot.proofs.start.Statement.{statement}
 use Rattle.slot.proofs.start.Tie as tie
 
+-- after the slot was cleared: the memory still holds it
+room : (c : tie.After-clear) → c .before .before .before .before .args .slot .start + c .before .before .before .before .args .slot .size ≤ length (c .clear .last .1 .0)
+room c =
+    let a = c .before .before .before .before .args in
+    blank-room (a .slot) (a .memory .now) (c .clear .last .1 .0) (c .before .before .before .before .pre .0) (c .clear .ensures)
+
 clear-requires : tie.Need-clear-requires
 clear-requires c κs = search needs
 
 sub-copy : tie.Need-sub-copy
-sub-copy c =
-    let a = c .before .before .before .before .before .before .args in
-    let h = blank-room (a .slot) (a .memory .now) (c .before .before .clear .last .1 .0) (c .before .before .before .before .before .before .pre .0) (c .before .before .clear .ensures) in
-    omega arith
+sub-copy c = omega (arith, room (c .before .before))
 
 part-copy-start : tie.Need-part-copy-start
-part-copy-start c =
-    let a = c .before .before .before .before .before .before .args in
-    let h = blank-room (a .slot) (a .memory .now) (c .before .before .clear .last .1 .0) (c .before .before .before .before .before .before .pre .0) (c .before .before .clear .ensures) in
-    omega arith
+part-copy-start c = omega (arith, room (c .before .before))
 
 part-copy-end : tie.Need-part-copy-end
 part-copy-end c = search needs
 
 copy-requires : tie.Need-copy-requires
-copy-requires c κs =
-    let a = c .before .before .before .before .before .before .before .args in
-    let h = blank-room (a .slot) (a .memory .now) (c .before .before .before .clear .last .1 .0) (c .before .before .before .before .before .before .before .pre .0) (c .before .before .before .clear .ensures) in
-    simp (length-take, length-drop) (omega arith)
+copy-requires c κs = simp (length-take, length-drop) (omega (arith, room (c .before .before .before)))
 
 session-of-requires : tie.Need-session-of-requires
 session-of-requires c κs = search needs
@@ -48,9 +45,11 @@ returns : tie.Need-returns
 unfolding done
 returns c =
     let a = c .before .before .before .before .before .before .before .before .before .before .before .args in
+    let cleared = c .before .before .before .before .before .before .before .clear in
+    let copied = c .before .before .before .copy in
     λ s. ap₂ stateOf
-    (copied-part (c .before .before .before .before .before .before .before .clear .last .1 .0) (a .slot .start) (a .«data» .now) (c .before .before .before .copy .last .1 .0) (c .before .before .before .copy .ensures .1)
-    ∙ ap (λ (m : List ℕ). pasted m (a .slot .start) (a .«data» .now)) (c .before .before .before .before .before .before .before .clear .ensures))
+    (copied-part (cleared .last .1 .0) (a .slot .start) (a .«data» .now) (copied .last .1 .0) (copied .ensures .1)
+    ∙ ap (λ (m : List ℕ). pasted m (a .slot .start) (a .«data» .now)) (cleared .ensures))
     (c .session-of .ensures)
 
 pub start-spec : {M : Type 1} → statement M
