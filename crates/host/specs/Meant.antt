@@ -15,7 +15,7 @@ use Rattle.smp.specs.declared.Run.{Run}
 use Rattle.smp.specs.declared.Chunk.{Chunk}
 use Rattle.smp.specs.declared.Request.{Request}
 use Rattle.smp.specs.declared.Reading.{Reading}
-use Rattle.smp.specs.declared.Reply.{Reply as Said′}
+use Rattle.smp.specs.declared.Reply.{Reply as Answered}
 use Rattle.smp.specs.Packet.{headerIn}
 use Rattle.smp.specs.Request.{readRequest, isRequest}
 use Rattle.smp.specs.Reply.{replyMap, replyHeader, replyPacket}
@@ -60,37 +60,37 @@ UploadMeant =
     → (c : Chunk) × ChunkMeant x off size tag (sent (writeUpload sequence x off size tag out) n) c
 
 -- the return code, the offset and the text that a reply means; the text stands at `start` in the reply
-unfoldable pub rcMeant : Said′ → ℕ
-rcMeant (Said′.Rc n) = n
-rcMeant (Said′.Placed n) = 0
-rcMeant (Said′.Text from len) = 0
+unfoldable pub rcMeant : Answered → ℕ
+rcMeant (Answered.Rc n) = n
+rcMeant (Answered.Placed n) = 0
+rcMeant (Answered.Text from len) = 0
 
-unfoldable pub offMeant : Said′ → Number
-offMeant (Said′.Rc n) = Number.Absent
-offMeant (Said′.Placed n) = Number.Is n
-offMeant (Said′.Text from len) = Number.Absent
+unfoldable pub offMeant : Answered → Number
+offMeant (Answered.Rc n) = Number.Absent
+offMeant (Answered.Placed n) = Number.Is n
+offMeant (Answered.Text from len) = Number.Absent
 
-unfoldable pub textMeant : Said′ → ℕ → Run
-textMeant (Said′.Rc n) start = Run.Absent
-textMeant (Said′.Placed n) start = Run.Absent
-textMeant (Said′.Text from len) start = Run.At start len
+unfoldable pub textMeant : Answered → ℕ → Run
+textMeant (Answered.Rc n) start = Run.Absent
+textMeant (Answered.Placed n) start = Run.Absent
+textMeant (Answered.Text from len) start = Run.At start len
 
 -- the text that a reply p carries at `start` is that of the request s
-unfoldable pub TextIs : List ℕ → Said′ → List ℕ → ℕ → Type 0
-TextIs s (Said′.Rc n) p start = Unit {0}
-TextIs s (Said′.Placed n) p start = Unit {0}
-TextIs s (Said′.Text from len) p start = take len (drop start p) ≡ take len (drop from s)
+unfoldable pub TextIs : List ℕ → Answered → List ℕ → ℕ → Type 0
+TextIs s (Answered.Rc n) p start = Unit {0}
+TextIs s (Answered.Placed n) p start = Unit {0}
+TextIs s (Answered.Text from len) p start = take len (drop start p) ≡ take len (drop from s)
 
 -- a reply that the controller can write: an offset of four bytes, a text that lies in the request
-unfoldable pub Writable : List ℕ → Said′ → Type 0
-Writable s (Said′.Rc n) = n < 256
-Writable s (Said′.Placed n) = n < 4294967296
-Writable s (Said′.Text from len) = from + len ≤ length s
+unfoldable pub Writable : List ℕ → Answered → Type 0
+Writable s (Answered.Rc n) = n < 256
+Writable s (Answered.Placed n) = n < 4294967296
+Writable s (Answered.Text from len) = from + len ≤ length s
 
 -- a reply that was written is read as what it meant
 abbrev pub ReplyMeant : Type 0
 ReplyMeant =
-    (s : List ℕ) (r : Said′) → Bytes s → isRequest s ≡ true → Writable s r → 8 + length (replyMap s r) ≤ 65533
+    (s : List ℕ) (r : Answered) → Bytes s → isRequest s ≡ true → Writable s r → 8 + length (replyMap s r) ≤ 65533
     → (start : ℕ)
     × (readReply (replyPacket (headerIn s) (replyMap s r))
     ≡ reply (record { header = replyHeader (headerIn s) (length (replyMap s r)); rc = rcMeant r; off = offMeant r; text = textMeant r start }))

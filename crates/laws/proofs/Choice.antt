@@ -30,6 +30,12 @@ unfolding pick
 pick-arms true f g = f refl
 pick-arms false f g = g refl
 
+-- what holds between the first arms of two choices by one test, and between their second arms, holds between the choices
+pub pick-between : {A B : Type 0} (P : A → B → Type 0) (t : Bool) (a b : A) (x y : B) → (t ≡ true → P a x) → (t ≡ false → P b y) → P (pick t a b) (pick t x y)
+unfolding pick
+pick-between P true a b x y f g = f refl
+pick-between P false a b x y f g = g refl
+
 -- a choice whose first arm can't be z, and which is z, took the second
 pub pick-skip : {A : Type 0} (t : Bool) (a b z : A) → (a ≡ z → ⊥) → pick t a b ≡ z → (t ≡ false) × (b ≡ z)
 unfolding pick

@@ -1,6 +1,24 @@
 // A packet of the Simple Management Protocol: its header, requests read out of it as values, and replies written.
+use cbor::Value;
+use map::Field;
+use map::Fields;
+use map::Kind;
+use map::Walked;
 use slot::Number;
 use slot::Sha;
+ghost use mathlib.Core.Path.{_≡_};
+ghost use mathlib.Core.Bool.{not};
+ghost use mathlib.Core.List.{[], _∷_, _++_};
+ghost use Prim.Native.Nat.{_+_, _≤_, _<_};
+ghost use lib.Dec.{ltb};
+ghost use lib.ListN.{length, take, drop};
+ghost use Rattle.laws.specs.Bytes.{pasted, ofBe16};
+ghost use Rattle.cbor.specs.Put.{Put};
+ghost use Rattle.cbor.specs.Write.{unsigned, textOf};
+ghost use Rattle.smp.specs.Packet.{headerIn, sized, headerBytes};
+ghost use Rattle.smp.specs.Request.{commandOf, numberIn, runIn, flagIn, shaOf, tagAt, uploadOf, requestOf, isRequest, readRequest};
+ghost use Rattle.smp.specs.Reply.{replyMap, replyHeader, replyPacket, Written};
+ghost use Rattle.smp.specs.Steps.{chunkOf, uploadFields, Sayable};
 
 // The eight bytes before a packet's map.
 pub struct Header {
@@ -64,4 +82,448 @@ pub enum Reply {
     Placed(usize),
     // The text of the packet from start on.
     Text { start: usize, len: usize },
+}
+
+// The number in two bytes of s from place at on, the high one first; a byte past the end counts as 0.
+fn number_at(s: &[u8], at: usize) -> usize
+    requires { ⌜ at < 65536 ⌝ }
+    ensures { λ r. ⌜ (r ≡ ofBe16 (drop at (now (s .entry)))) × (r < 65536) ⌝ }
+{
+    let high = laws::wide(laws::byte_at(s, at));
+    let low = laws::wide(laws::byte_at(s, at + 1));
+    high * 256 + low
+}
+
+// The header of a packet.
+pub fn header_in(s: &[u8]) -> Header
+    ensures { λ r. ⌜ r ≡ headerIn (now (s .entry)) ⌝ }
+{
+    let op = laws::byte_at(s, 0);
+    let flags = laws::byte_at(s, 1);
+    let length = number_at(s, 2);
+    let group = number_at(s, 4);
+    let sequence = laws::byte_at(s, 6);
+    let command = laws::byte_at(s, 7);
+    Header {
+        op,
+        flags,
+        length,
+        group,
+        sequence,
+        command,
+    }
+}
+
+// Whether a packet has the right length.
+pub fn is_sized(s: &[u8]) -> bool
+    ensures { λ r. ⌜ r ≡ sized (now (s .entry)) ⌝ }
+{
+    let n = s.len();
+    if n < 8 {
+        return false;
+    }
+    let payload = number_at(s, 2);
+    if n != 8 + payload {
+        return false;
+    }
+    n <= 65533
+}
+
+// What a header's op, group and command ask for together.
+fn command_of(h: Header) -> Command
+    ensures { λ r. ⌜ r ≡ commandOf h ⌝ }
+{
+    if h.group == 0 {
+        if h.command == 0 {
+            return Command::Echo;
+        }
+        if h.command != 5 {
+            return Command::Unknown;
+        }
+        if h.op != 2 {
+            return Command::Unknown;
+        }
+        return Command::Reset;
+    }
+    if h.group != 1 {
+        return Command::Unknown;
+    }
+    if h.op != 2 {
+        return Command::Unknown;
+    }
+    if h.command == 1 {
+        return Command::Upload;
+    }
+    if h.command == 5 {
+        return Command::Erase;
+    }
+    Command::Unknown
+}
+
+// The number of a field.
+fn number_in(f: Field) -> Number
+    ensures { λ r. ⌜ r ≡ numberIn f ⌝ }
+{
+    let Field::Is(value) = f else {
+        return Number::Absent;
+    };
+    match value {
+        Value::Unsigned(n) => Number::Is(n),
+        Value::Negative(_) => Number::Absent,
+        Value::Bytes { start: _, len: _ } => Number::Absent,
+        Value::Text { start: _, len: _ } => Number::Absent,
+        Value::Flag(_) => Number::Absent,
+        Value::Null => Number::Absent,
+    }
+}
+
+// The string of a field, bytes or text.
+fn run_in(f: Field) -> Run
+    ensures { λ r. ⌜ r ≡ runIn f ⌝ }
+{
+    let Field::Is(value) = f else {
+        return Run::Absent;
+    };
+    match value {
+        Value::Unsigned(_) => Run::Absent,
+        Value::Negative(_) => Run::Absent,
+        Value::Bytes { start, len } => Run::At { start, len },
+        Value::Text { start, len } => Run::At { start, len },
+        Value::Flag(_) => Run::Absent,
+        Value::Null => Run::Absent,
+    }
+}
+
+// The flag of a field; one that is left out is false.
+fn flag_in(f: Field) -> bool
+    ensures { λ r. ⌜ r ≡ flagIn f ⌝ }
+{
+    let Field::Is(value) = f else {
+        return false;
+    };
+    match value {
+        Value::Unsigned(_) => false,
+        Value::Negative(_) => false,
+        Value::Bytes { start: _, len: _ } => false,
+        Value::Text { start: _, len: _ } => false,
+        Value::Flag(b) => b,
+        Value::Null => false,
+    }
+}
+
+// A tag by its length.
+fn sha_of(run: Run) -> Sha
+    ensures { λ r. ⌜ r ≡ shaOf run ⌝ }
+{
+    let Run::At { start: _, len } = run else {
+        return Sha::Absent;
+    };
+    if len == 32 {
+        return Sha::Whole;
+    }
+    Sha::OtherLength
+}
+
+// Where a tag of 32 bytes starts, else 0.
+fn tag_at(run: Run) -> usize
+    ensures { λ r. ⌜ r ≡ tagAt run ⌝ }
+{
+    let Run::At { start, len } = run else {
+        return 0;
+    };
+    if len == 32 {
+        return start;
+    }
+    0
+}
+
+// The echo request in a packet.
+fn echo_in(s: &[u8]) -> Request
+    ensures { λ r. ⌜ r ≡ requestOf Command.Echo (now (s .entry)) ⌝ }
+{
+    let walked = map::map_from(Kind::Echo, s, 8);
+    let Walked::Map(fields) = walked else {
+        return Request::Answer(3);
+    };
+    let text = fields.text;
+    let run = run_in(text);
+    let Run::At { start, len } = run else {
+        return Request::Answer(3);
+    };
+    Request::Echo { start, len }
+}
+
+// The reset request in a packet.
+fn reset_in(s: &[u8]) -> Request
+    ensures { λ r. ⌜ r ≡ requestOf Command.Reset (now (s .entry)) ⌝ }
+{
+    let walked = map::map_from(Kind::Reset, s, 8);
+    let Walked::Map(_) = walked else {
+        return Request::Answer(3);
+    };
+    Request::Reset
+}
+
+// The erase request in a packet.
+fn erase_in(s: &[u8]) -> Request
+    ensures { λ r. ⌜ r ≡ requestOf Command.Erase (now (s .entry)) ⌝ }
+{
+    let walked = map::map_from(Kind::Erase, s, 8);
+    let Walked::Map(fields) = walked else {
+        return Request::Answer(3);
+    };
+    let slot = fields.slot;
+    let number = number_in(slot);
+    let Number::Is(n) = number else {
+        return Request::Erase;
+    };
+    if n == 1 {
+        return Request::Erase;
+    }
+    Request::Answer(3)
+}
+
+// The upload of a map's fields, with this offset and data.
+fn chunk_of(f: Fields, off: u64, start: usize, len: usize) -> Chunk
+    ensures { λ r. ⌜ r ≡ chunkOf f off start len ⌝ }
+{
+    let len_field = f.len;
+    let image_field = f.image;
+    let sha_field = f.sha;
+    let upgrade_field = f.upgrade;
+    let tag = run_in(sha_field);
+    let length = number_in(len_field);
+    let image = number_in(image_field);
+    let sha = sha_of(tag);
+    let place = tag_at(tag);
+    let upgrade = flag_in(upgrade_field);
+    Chunk {
+        off,
+        start,
+        size: len,
+        length,
+        image,
+        sha,
+        tag_at: place,
+        upgrade,
+    }
+}
+
+// The upload request of a map's fields.
+fn upload_of(f: Fields) -> Request
+    ensures { λ r. ⌜ r ≡ uploadFields f ⌝ }
+{
+    let off_field = f.off;
+    let number = number_in(off_field);
+    let Number::Is(off) = number else {
+        return Request::Answer(3);
+    };
+    let data_field = f.chunk;
+    let run = run_in(data_field);
+    let Run::At { start, len } = run else {
+        return Request::Answer(3);
+    };
+    Request::Upload(chunk_of(f, off, start, len))
+}
+
+// The upload request in a packet.
+fn upload_in(s: &[u8]) -> Request
+    ensures { λ r. ⌜ r ≡ requestOf Command.Upload (now (s .entry)) ⌝ }
+{
+    let walked = map::map_from(Kind::Upload, s, 8);
+    let Walked::Map(fields) = walked else {
+        return Request::Answer(3);
+    };
+    upload_of(fields)
+}
+
+// What a packet of this command asks for.
+fn request_of(command: Command, s: &[u8]) -> Request
+    ensures { λ r. ⌜ r ≡ requestOf command (now (s .entry)) ⌝ }
+{
+    match command {
+        Command::Echo => echo_in(s),
+        Command::Reset => reset_in(s),
+        Command::Upload => upload_in(s),
+        Command::Erase => erase_in(s),
+        Command::Unknown => Request::Answer(8),
+    }
+}
+
+// Whether a packet is a request.
+fn is_request(s: &[u8]) -> bool
+    ensures { λ r. ⌜ r ≡ isRequest (now (s .entry)) ⌝ }
+{
+    let sized = is_sized(s);
+    if !sized {
+        return false;
+    }
+    let op = laws::byte_at(s, 0);
+    if op == 0 {
+        return true;
+    }
+    op == 2
+}
+
+// A packet read as a request: strings stay in the packet.
+pub fn read_request(s: &[u8]) -> Reading
+    ensures { λ r. ⌜ r ≡ readRequest (now (s .entry)) ⌝ }
+{
+    let request = is_request(s);
+    if !request {
+        return Reading::NotARequest;
+    }
+    let header = header_in(s);
+    let command = command_of(header);
+    Reading::Is(request_of(command, s))
+}
+
+// Writes two bytes into buf from place at on; the other bytes of buf stay.
+fn put_two(buf: &mut [u8], at: usize, a: u8, b: u8)
+    requires { ⌜ at + 1 < length (now buf) ⌝ }
+    ensures { λ _. ⌜ now (buf .exit) ≡ pasted (now (buf .entry)) at (a ∷ b ∷ []) ⌝ }
+{
+    buf[at] = a;
+    buf[at + 1] = b;
+}
+
+// Writes a header into the first eight bytes of buf; the other bytes of buf stay.
+fn put_header(buf: &mut [u8], h: Header)
+    requires { ⌜ 8 ≤ length (now buf) ⌝ }
+    ensures { λ _. ⌜ now (buf .exit) ≡ pasted (now (buf .entry)) 0 (headerBytes h) ⌝ }
+{
+    put_two(buf, 0, h.op, h.flags);
+    laws::put_be16(buf, 2, h.length);
+    laws::put_be16(buf, 4, h.group);
+    put_two(buf, 6, h.sequence, h.command);
+}
+
+// Writes a text string into buf from place at on, and gives the place after it.
+fn put_text(buf: &mut [u8], at: usize, text: &[u8]) -> usize
+    requires { ⌜ at + length (textOf (now text)) ≤ length (now buf) ⌝ }
+    ensures { λ r. ⌜ Put r (now (buf .exit)) (now (buf .entry)) at (textOf (now (text .entry))) ⌝ }
+{
+    let next = cbor::put_head(buf, at, 3, text.len() as u64);
+    laws::put(buf, next, text);
+    next + text.len()
+}
+
+// Writes a key of this name with a number into buf from place at on, and gives the place after them.
+fn put_number(buf: &mut [u8], at: usize, name: &[u8], n: u64) -> usize
+    requires { ⌜ at + length (textOf (now name) ++ unsigned n) ≤ length (now buf) ⌝ }
+    ensures { λ r. ⌜ Put r (now (buf .exit)) (now (buf .entry)) at (textOf (now (name .entry)) ++ unsigned n) ⌝ }
+{
+    let next = put_text(buf, at, name);
+    cbor::put_head(buf, next, 0, n)
+}
+
+// Writes the map {"rc": n} into buf from place 8 on, and gives the place after it.
+fn put_rc(buf: &mut [u8], n: u8) -> usize
+    requires { ⌜ 8 + length (replyMap [] (Reply.Rc n)) ≤ length (now buf) ⌝ }
+    ensures { λ r. ⌜ Put r (now (buf .exit)) (now (buf .entry)) 8 (replyMap [] (Reply.Rc n)) ⌝ }
+{
+    let next = cbor::put_head(buf, 8, 5, 1);
+    put_number(buf, next, b"rc", n as u64)
+}
+
+// Writes the map {"rc": 0, "off": n} into buf from place 8 on, and gives the place after it.
+fn put_placed(buf: &mut [u8], n: usize) -> usize
+    requires { ⌜ 8 + length (replyMap [] (Reply.Placed n)) ≤ length (now buf) ⌝ }
+    ensures { λ r. ⌜ Put r (now (buf .exit)) (now (buf .entry)) 8 (replyMap [] (Reply.Placed n)) ⌝ }
+{
+    let first = cbor::put_head(buf, 8, 5, 2);
+    let second = put_number(buf, first, b"rc", 0);
+    put_number(buf, second, b"off", n as u64)
+}
+
+// Writes the map {"r": text} into buf from place 8 on, the text that of s from start on, and gives the place after it.
+fn put_echo(buf: &mut [u8], s: &[u8], start: usize, len: usize) -> usize
+    requires { ⌜ start + len ≤ length (now s) ⌝ }
+    requires { ⌜ 8 + length (replyMap (now s) (Reply.Text start len)) ≤ length (now buf) ⌝ }
+    ensures { λ r. ⌜ Put r (now (buf .exit)) (now (buf .entry)) 8 (replyMap (now (s .entry)) (Reply.Text start len)) ⌝ }
+{
+    let first = cbor::put_head(buf, 8, 5, 1);
+    let second = put_text(buf, first, b"r");
+    let end = start + len;
+    put_text(buf, second, &s[start..end])
+}
+
+// Writes a reply's map into buf from place 8 on, and gives the place after it.
+fn put_map(buf: &mut [u8], s: &[u8], reply: Reply) -> usize
+    requires { ⌜ Sayable (now s) reply ⌝ }
+    requires { ⌜ 8 + length (replyMap (now s) reply) ≤ length (now buf) ⌝ }
+    ensures { λ r. ⌜ Put r (now (buf .exit)) (now (buf .entry)) 8 (replyMap (now (s .entry)) reply) ⌝ }
+{
+    match reply {
+        Reply::Rc(n) => {
+            return put_rc(buf, n);
+        }
+        Reply::Placed(n) => {
+            return put_placed(buf, n);
+        }
+        Reply::Text { start, len } => {
+            return put_echo(buf, s, start, len);
+        }
+    }
+}
+
+// The header of a reply with a map of n bytes.
+fn reply_header(h: Header, n: usize) -> Header
+    requires { ⌜ h .op < 255 ⌝ }
+    ensures { λ r. ⌜ r ≡ replyHeader h n ⌝ }
+{
+    Header {
+        op: h.op + 1,
+        flags: 0,
+        length: n,
+        group: h.group,
+        sequence: h.sequence,
+        command: h.command,
+    }
+}
+
+// Writes a reply that fits to the start of buf, the map first and then the header with its length; gives how long it is.
+fn put_reply(h: Header, s: &[u8], reply: Reply, buf: &mut [u8]) -> usize
+    requires { ⌜ h .op < 255 ⌝ }
+    requires { ⌜ Sayable (now s) reply ⌝ }
+    requires { ⌜ 8 + length (replyMap (now s) reply) ≤ length (now buf) ⌝ }
+    ensures { λ r. ⌜ Put r (now (buf .exit)) (now (buf .entry)) 0 (replyPacket h (replyMap (now (s .entry)) reply)) ⌝ }
+{
+    let end = put_map(buf, s, reply);
+    let header = reply_header(h, end - 8);
+    put_header(buf, header);
+    end
+}
+
+// Whether a reply fits into this many bytes, at least 32: only an echo's can be too long.
+fn fits_in(s: &[u8], reply: Reply, room: usize) -> bool
+    requires { ⌜ 32 ≤ room ⌝ }
+    requires { ⌜ Sayable (now s) reply ⌝ }
+    ensures { λ r. ⌜ r ≡ not (ltb room (8 + length (replyMap (now (s .entry)) reply))) ⌝ }
+{
+    match reply {
+        Reply::Rc(_n) => {
+            return true;
+        }
+        Reply::Placed(_n) => {
+            return true;
+        }
+        Reply::Text { start: _, len } => {
+            return 11 + cbor::head_len(len as u64) + len <= room;
+        }
+    }
+}
+
+// Writes a reply to the start of buf, or rc 7 where an echo's is longer than buf; gives how long it is. The bytes after it stay.
+pub fn write_reply(h: Header, s: &[u8], reply: Reply, buf: &mut [u8]) -> usize
+    requires { ⌜ 32 ≤ length (now buf) ⌝ }
+    requires { ⌜ h .op < 255 ⌝ }
+    requires { ⌜ Sayable (now s) reply ⌝ }
+    ensures { λ r. ⌜ Written h (now (s .entry)) reply (now (buf .entry)) r (now (buf .exit)) ⌝ }
+{
+    let fits = fits_in(s, reply, buf.len());
+    if !fits {
+        return put_reply(h, s, Reply::Rc(7), buf);
+    }
+    put_reply(h, s, reply, buf)
 }

@@ -1,0 +1,72 @@
+-- `smp::request_of` meets its contract: each command has its own reader.
+-- Assumes nothing.
+use Rattle.smp.specs.Request.{requestOf}
+use borrow.Author.Needs.{needs}
+use Rattle.smp.proofs.request_of.Statement.{statement}
+use Rattle.smp.proofs.request_of.Tie as tie
+
+enum-told : tie.Need-enum-told
+enum-told c = search needs
+
+echo-in-requires : tie.Need-echo-in-requires
+echo-in-requires c κs = search needs
+
+enum-told-2 : tie.Need-enum-told-2
+enum-told-2 c = search needs
+
+reset-in-requires : tie.Need-reset-in-requires
+reset-in-requires c κs = search needs
+
+enum-told-3 : tie.Need-enum-told-3
+enum-told-3 c = search needs
+
+upload-in-requires : tie.Need-upload-in-requires
+upload-in-requires c κs = search needs
+
+enum-told-4 : tie.Need-enum-told-4
+enum-told-4 c = search needs
+
+erase-in-requires : tie.Need-erase-in-requires
+erase-in-requires c κs = search needs
+
+enum-told-5 : tie.Need-enum-told-5
+enum-told-5 c = search needs
+
+returns : tie.Need-returns
+unfolding requestOf
+returns c = simp (c .before .enum-told .given .1, ← c .echo-in .ensures)
+
+returns-2 : tie.Need-returns-2
+unfolding requestOf
+returns-2 c = simp (c .before .enum-told2 .given .1, ← c .reset-in .ensures)
+
+returns-3 : tie.Need-returns-3
+unfolding requestOf
+returns-3 c = simp (c .before .enum-told3 .given .1, ← c .upload-in .ensures)
+
+returns-4 : tie.Need-returns-4
+unfolding requestOf
+returns-4 c = simp (c .before .enum-told4 .given .1, ← c .erase-in .ensures)
+
+returns-5 : tie.Need-returns-5
+unfolding requestOf
+returns-5 c = simp (c .enum-told5 .given .1)
+
+pub request-of-spec : {M : Type 1} → statement M
+request-of-spec =
+    tie.close
+    (tie.spec
+    enum-told
+    echo-in-requires
+    enum-told-2
+    reset-in-requires
+    enum-told-3
+    upload-in-requires
+    enum-told-4
+    erase-in-requires
+    enum-told-5
+    returns
+    returns-2
+    returns-3
+    returns-4
+    returns-5)
