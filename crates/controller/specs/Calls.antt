@@ -8,8 +8,10 @@ use lib.Dec.{ltb}
 use lib.ListN.{length}
 use Rattle.laws.specs.Choice.{pick}
 use Rattle.slot.specs.declared.Slot.{Slot}
-use Rattle.slot.specs.Session.{regionOk}
+use Rattle.slot.specs.declared.Session.{Session}
+use Rattle.slot.specs.Session.{regionOk, closed}
 use Rattle.slot.specs.Act.{State, Act}
+use Rattle.slot.specs.State.{stateOf}
 use Rattle.slot.specs.History.{History, Held, CutFrom, unbroken}
 use Rattle.smp.specs.declared.Reading.{Reading}
 use Rattle.smp.specs.Request.{readRequest}
@@ -56,3 +58,7 @@ PacketUnbroken =
     → after slot first calls .session .running ≡ true
     → CutFrom image (actsOf slot first calls)
     → after slot first calls .memory ≡ unbroken slot (first .memory) image (after slot first calls .session .place)
+
+-- what a row of calls keeps, from a closed session on: where the slot lies in the memory, there is a history of acts of which the demand holds
+abbrev pub Kept : Slot → List ℕ → List ℕ → Session → Type 0
+Kept slot m m′ s = regionOk slot (length m) ≡ true → (acts : List Act) × Held slot (stateOf m closed) acts (stateOf m′ s)

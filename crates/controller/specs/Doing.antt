@@ -7,6 +7,7 @@ use lib.ListN.{take, drop, replicate}
 use Rattle.laws.specs.Choice.{pick}
 use Rattle.slot.specs.declared.Slot.{Slot}
 use Rattle.slot.specs.declared.Session.{Session}
+use Rattle.slot.specs.declared.Sha.{Sha}
 use Rattle.slot.specs.declared.Upload.{Upload}
 use Rattle.slot.specs.declared.Plan.{Plan}
 use Rattle.slot.specs.Plan.{planOf, whole}
@@ -19,7 +20,11 @@ use Rattle.smp.specs.declared.Reply.{Reply}
 abbrev pub partOf : List ℕ → ℕ → ℕ → List ℕ
 partOf p start len = take len (drop start p)
 
--- an upload request in the slot's terms: the tag is the packet's 32 bytes, or zeros where it has none
+-- a request's tag: 32 bytes of the packet, or zeros where it has none
+unfoldable pub tagFrom : List ℕ → Sha → ℕ → List ℕ
+tagFrom p sha at = pick (whole sha) (partOf p at 32) (replicate 32 0)
+
+-- an upload request in the slot's terms
 unfoldable pub uploadFrom : List ℕ → Chunk → Upload
 uploadFrom p c =
     record {
@@ -28,7 +33,7 @@ uploadFrom p c =
       length = c .length;
       image = c .image;
       sha = c .sha;
-      tag = pick (whole (c .sha)) (partOf p (c .«tag_at») 32) (replicate 32 0);
+      tag = tagFrom p (c .sha) (c .«tag_at»);
       upgrade = c .upgrade;
     }
 

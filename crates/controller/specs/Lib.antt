@@ -1,3 +1,4 @@
 pub mod Doing
 pub mod Handle
 pub mod Calls
+pub mod Carried

@@ -72,6 +72,7 @@ RunInside : List ℕ → Run → Type 0
 RunInside s Run.Absent = Unit {0}
 RunInside s (Run.At start len) = start + len ≤ length s
 
+-- the string of a field of a map that was read lies inside s
 run-inside : (s : List ℕ) (k : Key) (f : Field) → FieldSound s k f → RunInside s (runIn f)
 unfolding runIn RunInside
 run-inside s k Field.Absent o = tt
@@ -96,7 +97,7 @@ tag-inside s (Run.At start len) o e = by-length (eqb len 32) refl e
 abbrev ChunkInside : List ℕ → Chunk → Type 0
 ChunkInside s c = (c .start + c .size ≤ length s) × (whole (c .sha) ≡ true → c .«tag_at» + 32 ≤ length s)
 
--- of an echo the text, of an upload data and tag
+-- what a request names lies inside s: of an echo the text, of an upload data and tag
 RequestInside : List ℕ → Request → Type 0
 RequestInside s (Request.Answer n) = Unit {0}
 RequestInside s (Request.Echo start len) = start + len ≤ length s
@@ -104,22 +105,25 @@ RequestInside s Request.Reset = Unit {0}
 RequestInside s (Request.Upload c) = ChunkInside s c
 RequestInside s Request.Erase = Unit {0}
 
--- each command's request
+-- of an echo by its text
 echo-of-inside : (s : List ℕ) (x : Run) → RunInside s x → RequestInside s (echoOf x)
 unfolding RunInside RequestInside echoOf
 echo-of-inside s Run.Absent o = tt
 echo-of-inside s (Run.At start len) o = o
 
+-- of an echo by its map
 echo-in-inside : (s : List ℕ) (w : Walked) → mapFrom Kind.Echo s 8 ≡ w → RequestInside s (echoIn w)
 unfolding RequestInside echoIn
 echo-in-inside s Walked.Malformed e = tt
 echo-in-inside s (Walked.Map f) e = echo-of-inside s (runIn (f .text)) (run-inside s Key.Text (f .text) (map-fields Kind.Echo s 8 f e .text))
 
+-- of a reset, which names nothing
 reset-in-inside : (s : List ℕ) (w : Walked) → RequestInside s (resetIn w)
 unfolding RequestInside resetIn
 reset-in-inside s Walked.Malformed = tt
 reset-in-inside s (Walked.Map f) = tt
 
+-- of an erase by its slot, which names nothing
 erase-of-inside : (s : List ℕ) (n : Number) → RequestInside s (eraseOf n)
 unfolding RequestInside eraseOf
 erase-of-inside s Number.Absent = tt
@@ -129,17 +133,20 @@ erase-of-inside s (Number.Is n) = by (eqb n 1)
     by true = rw pick-yes tt
     by false = rw pick-no tt
 
+-- of an erase by its map
 erase-in-inside : (s : List ℕ) (w : Walked) → RequestInside s (eraseIn w)
 unfolding RequestInside eraseIn
 erase-in-inside s Walked.Malformed = tt
 erase-in-inside s (Walked.Map f) = erase-of-inside s (numberIn (f .slot))
 
+-- of an upload by its offset and data
 upload-of-inside : (s : List ℕ) (f : Fields) (n : Number) (x : Run) → RunInside s x → RunInside s (runIn (f .sha)) → RequestInside s (uploadOf f n x)
 unfolding RunInside RequestInside uploadOf
 upload-of-inside s f Number.Absent x o t = tt
 upload-of-inside s f (Number.Is off) Run.Absent o t = tt
 upload-of-inside s f (Number.Is off) (Run.At start len) o t = (o, λ w. tag-inside s (runIn (f .sha)) t w)
 
+-- of an upload by its map
 upload-in-inside : (s : List ℕ) (w : Walked) → mapFrom Kind.Upload s 8 ≡ w → RequestInside s (uploadIn w)
 unfolding RequestInside uploadIn
 upload-in-inside s Walked.Malformed e = tt
@@ -147,6 +154,7 @@ upload-in-inside s (Walked.Map f) e =
     let o = map-fields Kind.Upload s 8 f e in
     upload-of-inside s f (numberIn (f .off)) (runIn (f .chunk)) (run-inside s Key.Data (f .chunk) (o .chunk)) (run-inside s Key.Sha (f .sha) (o .sha))
 
+-- of a request of any command
 request-of-inside : (k : Command) (s : List ℕ) → RequestInside s (requestOf k s)
 unfolding RequestInside requestOf
 request-of-inside Command.Echo s = echo-in-inside s (mapFrom Kind.Echo s 8) refl
@@ -155,6 +163,7 @@ request-of-inside Command.Upload s = upload-in-inside s (mapFrom Kind.Upload s 8
 request-of-inside Command.Erase s = erase-in-inside s (mapFrom Kind.Erase s 8)
 request-of-inside Command.Unknown s = tt
 
+-- of every packet that is a request
 request-inside : (s : List ℕ) (r : Request) → readRequest s ≡ Reading.Is r → RequestInside s r
 request-inside s r e = subst (λ (x : Request). RequestInside s x) (is-request s r e .1) (request-of-inside (commandOf (headerIn s)) s)
 

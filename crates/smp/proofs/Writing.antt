@@ -32,12 +32,31 @@ put-then {b₀} {b₁} {b₂} {at} {r₁} {r₂} {x} {y} room p q =
       written = q .written ∙ ap₂ (λ (m : List ℕ) (k : ℕ). pasted m k y) (p .written) (p .place) ∙ pasted-twice b₀ at x y room;
     }
 
--- where two lists have room, the first has, and the second has after it
+-- where two lists have room, the first has
 pub room-first : (at : ℕ) (x y : List ℕ) {m : ℕ} → at + length (x ++ y) ≤ m → at + length x ≤ m
 room-first at x y room = omega (arith, simp length-append at room)
 
+-- where two lists have room, the second has after the first
 pub room-rest : (at : ℕ) (x y : List ℕ) {r m : ℕ} → r ≡ at + length x → at + length (x ++ y) ≤ m → r + length y ≤ m
 room-rest at x y e room = omega (arith, simp length-append at room)
+
+-- three lists written one after the other
+pub put-three : (at : ℕ) (x y z : List ℕ) {b₀ b₁ b₂ b₃ : List ℕ} {r₁ r₂ r₃ : ℕ} → at + length ((x ++ y) ++ z) ≤ length b₀ → Put r₁ b₁ b₀ at x → Put r₂ b₂ b₁ r₁ y → Put r₃ b₃ b₂ r₂ z → Put r₃ b₃ b₀ at ((x ++ y) ++ z)
+put-three at x y z room p q r =
+    let two = room-first at (x ++ y) z room in
+    put-then two (put-then (room-first at x y two) p q) r
+
+-- where three lists have room, the first has
+pub room-one : (at : ℕ) (x y z : List ℕ) {m : ℕ} → at + length ((x ++ y) ++ z) ≤ m → at + length x ≤ m
+room-one at x y z room = room-first at x y (room-first at (x ++ y) z room)
+
+-- where three lists have room, the second has after the first
+pub room-two : (at : ℕ) (x y z : List ℕ) {r m : ℕ} → r ≡ at + length x → at + length ((x ++ y) ++ z) ≤ m → r + length y ≤ m
+room-two at x y z e room = room-rest at x y e (room-first at (x ++ y) z room)
+
+-- where three lists have room, the third has after the second
+pub room-three : (at : ℕ) (x y z : List ℕ) {r₁ r₂ m : ℕ} → r₁ ≡ at + length x → r₂ ≡ r₁ + length y → at + length ((x ++ y) ++ z) ≤ m → r₂ + length z ≤ m
+room-three at x y z e f room = omega (arith, simp length-append at room)
 
 -- what is written in front of a list that stands at a place is joined to it
 pub pasted-front : (d : List ℕ) (at : ℕ) (x y : List ℕ) → length x ≡ at → at + length y ≤ length d → pasted (pasted d at y) 0 x ≡ pasted d 0 (x ++ y)
@@ -87,7 +106,7 @@ packet-put h hd m {d} {e₁} {e₂} end room p is w =
           ∙ pasted-front d 8 (headerBytes (replyHeader h (length m))) m size room;
     }
 
--- a reply that is written whole, and one that is rc 7 instead
+-- a reply that fits is written whole
 pub written-whole : (h : Header) (s : List ℕ) (r : Reply) (d : List ℕ) (n : ℕ) (e : List ℕ) → ltb (length d) (8 + length (replyMap s r)) ≡ false → Put n e d 0 (replyPacket h (replyMap s r)) → Written h s r d n e
 unfolding replyBytes
 written-whole h s r d n e fits p =
@@ -96,6 +115,7 @@ written-whole h s r d n e fits p =
       bytes = simp (fits, pick-no) (p .written);
     }
 
+-- a reply that does not fit is rc 7 instead
 pub written-seven : (h : Header) (s : List ℕ) (r : Reply) (d : List ℕ) (n : ℕ) (e : List ℕ) → ltb (length d) (8 + length (replyMap s r)) ≡ true → Put n e d 0 (replyPacket h (replyMap s (Reply.Rc 7))) → Written h s r d n e
 unfolding replyBytes
 written-seven h s r d n e long p =
@@ -104,10 +124,11 @@ written-seven h s r d n e long p =
       bytes = simp (long, pick-yes) (p .written);
     }
 
--- the shortest head of a small argument: one byte; at most two; at most five
+-- the shortest head of an argument below 24 is one byte
 pub head-tiny : (m n : ℕ) → n < 24 → length (headOf m n) ≡ 1
 head-tiny m n h = head-size m n ∙ ap suc (form-tiny n h .1)
 
+-- that of a byte is at most two
 pub head-byte : (m n : ℕ) → n < 256 → length (headOf m n) ≤ 2
 head-byte m n h =
     elim (decLt n 24) [
@@ -115,6 +136,7 @@ head-byte m n h =
       | no a ↦ omega (arith, head-size m n, form-one n (omega arith) h .1)
     ]
 
+-- that of a number below 2^32 is at most five
 pub head-word : (m n : ℕ) → n < 4294967296 → length (headOf m n) ≤ 5
 head-word m n h =
     elim (decLt n 256) [
@@ -125,28 +147,31 @@ head-word m n h =
       ]
     ]
 
--- a reply's map in the parts that its writer writes
+-- the map of a place in the parts that its writer writes
 pub placed-parts : (s : List ℕ) (n : ℕ) → replyMap s (Reply.Placed n) ≡ (mapOf 2 ++ (textOf nameRc ++ unsigned 0)) ++ (textOf nameOff ++ unsigned n)
 unfolding replyMap
 placed-parts s n =
     ap (λ (l : List ℕ). mapOf 2 ++ l) (sym (append-assoc (textOf nameRc) (unsigned 0) (textOf nameOff ++ unsigned n)))
     ∙ sym (append-assoc (mapOf 2) (textOf nameRc ++ unsigned 0) (textOf nameOff ++ unsigned n))
 
+-- the map of a text in the parts that its writer writes
 pub echo-parts : (s : List ℕ) (start len : ℕ) → replyMap s (Reply.Text start len) ≡ (mapOf 1 ++ textOf nameR) ++ textOf (take (start + len - start) (drop start s))
 unfolding replyMap
 echo-parts s start len =
     let e : start + len - start ≡ len = omega arith in
     rw e (sym (append-assoc (mapOf 1) (textOf nameR) (textOf (take len (drop start s)))))
 
--- how long each reply's map is
+-- how long the map of a return code is
 pub rc-map : (s : List ℕ) (n : ℕ) → length (replyMap s (Reply.Rc n)) ≡ 4 + length (unsigned n)
 unfolding replyMap
 rc-map s n = simp length-append (omega (arith, head-tiny 5 1 (lit< tt), head-tiny 3 2 (lit< tt)))
 
+-- how long the map of a place is
 pub placed-map : (s : List ℕ) (n : ℕ) → length (replyMap s (Reply.Placed n)) ≡ 9 + length (unsigned n)
 unfolding replyMap
 placed-map s n = simp length-append (omega (arith, head-tiny 5 2 (lit< tt), head-tiny 3 2 (lit< tt), head-tiny 0 0 (lit< tt), head-tiny 3 3 (lit< tt)))
 
+-- how long the map of a text is
 pub text-map : (s : List ℕ) (start len : ℕ) → start + len ≤ length s → length (replyMap s (Reply.Text start len)) ≡ 3 + length (headOf 0 len) + len
 unfolding replyMap
 text-map s start len h =
@@ -158,20 +183,27 @@ pub packet-length : (h : Header) (m : List ℕ) → length (replyPacket h m) ≡
 unfolding replyPacket
 packet-length h m = rw (length-append, header-length (replyHeader h (length m)))
 
--- a return code and a place fit the smallest buffer of 32 bytes
+-- the reply with a return code, at most 14 bytes, fits the smallest buffer of 32
 pub rc-length : (h : Header) (s : List ℕ) (n : ℕ) → n < 256 → length (replyPacket h (replyMap s (Reply.Rc n))) ≤ 14
 rc-length h s n l = omega (arith, packet-length h (replyMap s (Reply.Rc n)), rc-map s n, head-byte 0 n l)
 
+-- the reply with a place, at most 22 bytes, fits the smallest buffer of 32
 pub placed-length : (h : Header) (s : List ℕ) (n : ℕ) → n < 4294967296 → length (replyPacket h (replyMap s (Reply.Placed n))) ≤ 22
 placed-length h s n l = omega (arith, packet-length h (replyMap s (Reply.Placed n)), placed-map s n, head-word 0 n l)
 
--- whether a reply fits a buffer of at least 32 bytes: a return code and a place do, and a text goes by its length
-pub rc-fits : (s : List ℕ) (n room : ℕ) → n < 256 → 32 ≤ room → ltb room (8 + length (replyMap s (Reply.Rc n))) ≡ false
-rc-fits s n room l h = le-ltb room (8 + length (replyMap s (Reply.Rc n))) (omega (arith, rc-map s n, head-byte 0 n l))
+-- a return code has room in a buffer of at least 32 bytes
+pub rc-room : (s : List ℕ) (n : ℕ) {room : ℕ} → n < 256 → 32 ≤ room → 8 + length (replyMap s (Reply.Rc n)) ≤ room
+rc-room s n l h = omega (arith, rc-map s n, head-byte 0 n l)
 
+-- so it fits
+pub rc-fits : (s : List ℕ) (n room : ℕ) → n < 256 → 32 ≤ room → ltb room (8 + length (replyMap s (Reply.Rc n))) ≡ false
+rc-fits s n room l h = le-ltb room (8 + length (replyMap s (Reply.Rc n))) (rc-room s n l h)
+
+-- a place fits a buffer of at least 32 bytes
 pub placed-fits : (s : List ℕ) (n room : ℕ) → n < 4294967296 → 32 ≤ room → ltb room (8 + length (replyMap s (Reply.Placed n))) ≡ false
 placed-fits s n room l h = le-ltb room (8 + length (replyMap s (Reply.Placed n))) (omega (arith, placed-map s n, head-word 0 n l))
 
+-- at most is not above
 leb-not : (a b : ℕ) → leb a b ≡ not (ltb b a)
 leb-not a b =
     elim (decLe a b) [
@@ -181,6 +213,7 @@ leb-not a b =
           simp (lt-leb a b l, lt-ltb b a l)
     ]
 
+-- a text fits by its length
 pub text-fits : (s : List ℕ) (start len k room : ℕ) → start + len ≤ length s → k ≡ length (headOf 0 len) → leb (11 + k + len) room ≡ not (ltb room (8 + length (replyMap s (Reply.Text start len))))
 text-fits s start len k room h e =
     let n : 8 + length (replyMap s (Reply.Text start len)) ≡ 11 + k + len = omega (arith, text-map s start len h) in

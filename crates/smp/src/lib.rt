@@ -11,12 +11,12 @@ ghost use mathlib.Core.Bool.{not};
 ghost use mathlib.Core.List.{[], _∷_, _++_};
 ghost use Prim.Native.Nat.{_+_, _≤_, _<_};
 ghost use lib.Dec.{ltb};
-ghost use lib.ListN.{length, take, drop};
+ghost use lib.ListN.{length, drop};
 ghost use Rattle.laws.specs.Bytes.{pasted, ofBe16};
 ghost use Rattle.cbor.specs.Put.{Put};
 ghost use Rattle.cbor.specs.Write.{unsigned, textOf};
 ghost use Rattle.smp.specs.Packet.{headerIn, sized, headerBytes};
-ghost use Rattle.smp.specs.Request.{commandOf, numberIn, runIn, flagIn, shaOf, tagAt, uploadOf, requestOf, isRequest, readRequest};
+ghost use Rattle.smp.specs.Request.{commandOf, numberIn, runIn, flagIn, shaOf, tagAt, requestOf, isRequest, readRequest};
 ghost use Rattle.smp.specs.Reply.{replyMap, replyHeader, replyPacket, Written};
 ghost use Rattle.smp.specs.Steps.{chunkOf, uploadFields, Sayable};
 
@@ -455,15 +455,9 @@ fn put_map(buf: &mut [u8], s: &[u8], reply: Reply) -> usize
     ensures { λ r. ⌜ Put r (now (buf .exit)) (now (buf .entry)) 8 (replyMap (now (s .entry)) reply) ⌝ }
 {
     match reply {
-        Reply::Rc(n) => {
-            return put_rc(buf, n);
-        }
-        Reply::Placed(n) => {
-            return put_placed(buf, n);
-        }
-        Reply::Text { start, len } => {
-            return put_echo(buf, s, start, len);
-        }
+        Reply::Rc(n) => put_rc(buf, n),
+        Reply::Placed(n) => put_placed(buf, n),
+        Reply::Text { start, len } => put_echo(buf, s, start, len),
     }
 }
 
@@ -502,15 +496,9 @@ fn fits_in(s: &[u8], reply: Reply, room: usize) -> bool
     ensures { λ r. ⌜ r ≡ not (ltb room (8 + length (replyMap (now (s .entry)) reply))) ⌝ }
 {
     match reply {
-        Reply::Rc(_n) => {
-            return true;
-        }
-        Reply::Placed(_n) => {
-            return true;
-        }
-        Reply::Text { start: _, len } => {
-            return 11 + cbor::head_len(len as u64) + len <= room;
-        }
+        Reply::Rc(_n) => true,
+        Reply::Placed(_n) => true,
+        Reply::Text { start: _, len } => 11 + cbor::head_len(len as u64) + len <= room,
     }
 }
 

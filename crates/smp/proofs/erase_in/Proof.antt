@@ -18,7 +18,7 @@ enum-told c = search needs
 
 returns : tie.Need-returns
 unfolding eraseOf eraseIn requestOf
-returns c = simp (← c .before .before .map-from .ensures, c .enum-told .given .1, pick-yes, pick-no)
+returns c = simp (← c .before .before .map-from .ensures, c .enum-told .given .1)
 
 number-in-requires : tie.Need-number-in-requires
 number-in-requires c κs = search needs
@@ -31,15 +31,15 @@ enum-told-2 c = search needs
 
 returns-2 : tie.Need-returns-2
 unfolding eraseOf eraseIn requestOf
-returns-2 c = simp (← c .before .before .before .before .before .before .map-from .ensures, c .before .before .before .before .walked .given .1, ← c .before .before .number-in .ensures, c .enum-told2 .given .1, pick-yes, pick-no)
+returns-2 c = simp (← c .before .before .before .before .before .before .map-from .ensures, c .before .before .before .before .walked .given .1, ← c .before .before .number-in .ensures, c .enum-told2 .given .1)
 
 returns-3 : tie.Need-returns-3
 unfolding eraseOf eraseIn requestOf
-returns-3 c = simp (← c .before .before .before .before .before .before .before .before .map-from .ensures, c .before .before .before .before .before .before .walked .given .1, ← c .before .before .before .before .number-in .ensures, c .before .before .number .given .1, eq-eqb _ _ (c .if1 .taken), pick-yes, pick-no)
+returns-3 c = simp (← c .before .before .before .before .before .before .before .before .map-from .ensures, c .before .before .before .before .before .before .walked .given .1, ← c .before .before .before .before .number-in .ensures, c .before .before .number .given .1, eq-eqb _ _ (c .if1 .taken), pick-yes)
 
 returns-4 : tie.Need-returns-4
 unfolding eraseOf eraseIn requestOf
-returns-4 c = simp (← c .before .before .before .before .before .before .before .before .map-from .ensures, c .before .before .before .before .before .before .walked .given .1, ← c .before .before .before .before .number-in .ensures, c .before .before .number .given .1, ne-eqb _ _ (c .if1 .left), pick-yes, pick-no)
+returns-4 c = simp (← c .before .before .before .before .before .before .before .before .map-from .ensures, c .before .before .before .before .before .before .walked .given .1, ← c .before .before .before .before .number-in .ensures, c .before .before .number .given .1, ne-eqb _ _ (c .if1 .left), pick-no)
 
 pub erase-in-spec : {M : Type 1} → statement M
 erase-in-spec =

@@ -16,21 +16,8 @@ use Rattle.smp.proofs.fits_in.Tie as tie
 enum-known-reply : tie.Need-enum-known-reply
 enum-known-reply c = search needs
 
-returns : tie.Need-returns
-returns c =
-    let a = c .before .before .before .before .args in
-    let g = c .before .reply .given in
-    sym (ap (λ (r : Reply). not (ltb (a .room) (8 + length (replyMap (a .s .now) r)))) (g .1) ∙ ap not (rc-fits (a .s .now) (g .0 .0) (a .room) (omega arith) (c .before .before .before .before .pre .0)))
-
 enum-known-reply-2 : tie.Need-enum-known-reply-2
 enum-known-reply-2 c = search needs
-
-returns-2 : tie.Need-returns-2
-returns-2 c =
-    let a = c .before .before .before .before .args in
-    let g = c .before .reply2 .given in
-    let small = rw (g .1) at (c .before .before .before .before .pre .1) in
-    sym (ap (λ (r : Reply). not (ltb (a .room) (8 + length (replyMap (a .s .now) r)))) (g .1) ∙ ap not (placed-fits (a .s .now) (g .0 .0) (a .room) small (c .before .before .before .before .pre .0)))
 
 enum-known-reply-3 : tie.Need-enum-known-reply-3
 enum-known-reply-3 c = search needs
@@ -40,17 +27,28 @@ head-len-requires c κs = search needs
 
 add-result : tie.Need-add-result
 add-result c =
-    let a = c .before .before .before .before .before .args in
     let g = c .before .before .reply3 .given in
     let inside = rw (g .1) at (c .before .before .before .before .before .pre .1) in
     omega (arith, c .head-len .ensures, head-word 0 (g .0 .1 .0) (omega (arith, inside)))
 
 add-result-2 : tie.Need-add-result-2
 add-result-2 c =
-    let a = c .before .before .before .before .before .args in
     let g = c .before .before .reply3 .given in
     let inside = rw (g .1) at (c .before .before .before .before .before .pre .1) in
     omega (arith, inside, c .head-len .ensures, head-word 0 (g .0 .1 .0) (omega (arith, inside)))
+
+returns : tie.Need-returns
+returns c =
+    let a = c .before .before .before .before .args in
+    let g = c .before .reply .given in
+    sym (ap (λ (r : Reply). not (ltb (a .room) (8 + length (replyMap (a .s .now) r)))) (g .1) ∙ ap not (rc-fits (a .s .now) (g .0 .0) (a .room) (omega arith) (c .before .before .before .before .pre .0)))
+
+returns-2 : tie.Need-returns-2
+returns-2 c =
+    let a = c .before .before .before .before .args in
+    let g = c .before .reply2 .given in
+    let small = rw (g .1) at (c .before .before .before .before .pre .1) in
+    sym (ap (λ (r : Reply). not (ltb (a .room) (8 + length (replyMap (a .s .now) r)))) (g .1) ∙ ap not (placed-fits (a .s .now) (g .0 .0) (a .room) small (c .before .before .before .before .pre .0)))
 
 returns-3 : tie.Need-returns-3
 returns-3 c =
@@ -64,11 +62,11 @@ fits-in-spec =
     tie.close
     (tie.spec
     enum-known-reply
-    returns
     enum-known-reply-2
-    returns-2
     enum-known-reply-3
     head-len-requires
     add-result
     add-result-2
+    returns
+    returns-2
     returns-3)

@@ -10,6 +10,7 @@ use borrow.Author.Needs.{needs}
 use Rattle.smp.proofs.is_request.Statement.{statement}
 use Rattle.smp.proofs.is_request.Tie as tie
 
+-- a test denied twice is the test
 not-twice : (b : Bool) → b ≡ not (not b)
 not-twice true = refl
 not-twice false = refl

@@ -12,26 +12,12 @@ put-rc-requires : tie.Need-put-rc-requires
 unfolding replyMap
 put-rc-requires c κs = rw (c .before .before .reply .given .1) at (c .before .before .before .before .before .before .pre .1)
 
-same-length : tie.Need-same-length
-same-length c = search needs
-
-returns : tie.Need-returns
-unfolding replyMap
-returns c = rw (c .before .before .before .before .before .reply .given .1) (c .before .before .put-rc .ensures)
-
 enum-known-reply-2 : tie.Need-enum-known-reply-2
 enum-known-reply-2 c = search needs
 
 put-placed-requires : tie.Need-put-placed-requires
 unfolding replyMap
 put-placed-requires c κs = rw (c .before .before .reply2 .given .1) at (c .before .before .before .before .before .before .pre .1)
-
-same-length-2 : tie.Need-same-length-2
-same-length-2 c = search needs
-
-returns-2 : tie.Need-returns-2
-unfolding replyMap
-returns-2 c = rw (c .before .before .before .before .before .reply2 .given .1) (c .before .before .put-placed .ensures)
 
 enum-known-reply-3 : tie.Need-enum-known-reply-3
 enum-known-reply-3 c = search needs
@@ -41,6 +27,20 @@ unfolding replyMap
 put-echo-requires c κs =
     let p = rw (c .before .before .reply3 .given .1) at (c .before .before .before .before .before .before .pre) in
     (p .0 .0, p .1)
+
+same-length : tie.Need-same-length
+same-length c = search needs
+
+returns : tie.Need-returns
+unfolding replyMap
+returns c = rw (c .before .before .before .before .before .reply .given .1) (c .before .before .put-rc .ensures)
+
+same-length-2 : tie.Need-same-length-2
+same-length-2 c = search needs
+
+returns-2 : tie.Need-returns-2
+unfolding replyMap
+returns-2 c = rw (c .before .before .before .before .before .reply2 .given .1) (c .before .before .put-placed .ensures)
 
 same-length-3 : tie.Need-same-length-3
 same-length-3 c = search needs
@@ -55,13 +55,13 @@ put-map-spec =
     (tie.spec
     enum-known-reply
     put-rc-requires
-    same-length
-    returns
     enum-known-reply-2
     put-placed-requires
-    same-length-2
-    returns-2
     enum-known-reply-3
     put-echo-requires
+    same-length
+    returns
+    same-length-2
+    returns-2
     same-length-3
     returns-3)

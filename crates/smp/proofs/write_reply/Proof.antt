@@ -1,10 +1,9 @@
 -- `smp::write_reply` meets its contract: what is too long for the buffer is rc 7, which fits.
 -- Assumes nothing.
 use mathlib.Core.Path.{sym, _∙_}
-use native.Mathlib.Omega.{arith}
 use borrow.Author.Tests.{not-true, not-false, ltb-false}
 use lib.Dec.{lit<}
-use Rattle.smp.proofs.Writing.{rc-map, head-byte, written-whole, written-seven}
+use Rattle.smp.proofs.Writing.{rc-room, written-whole, written-seven}
 use borrow.Author.Needs.{needs}
 use Rattle.smp.proofs.write_reply.Statement.{statement}
 use Rattle.smp.proofs.write_reply.Tie as tie
@@ -13,7 +12,7 @@ fits-in-requires : tie.Need-fits-in-requires
 fits-in-requires c κs = search needs
 
 put-reply-requires : tie.Need-put-reply-requires
-put-reply-requires c κs = (c .before .before .before .before .before .pre .1 .0, (tt, omega (arith, rc-map (c .before .before .before .before .before .args .s .now) 7, head-byte 0 7 (lit< tt))))
+put-reply-requires c κs = (c .before .before .before .before .before .pre .1 .0, (tt, rc-room _ _ (lit< tt) (c .before .before .before .before .before .pre .0)))
 
 same-length : tie.Need-same-length
 same-length c = search needs

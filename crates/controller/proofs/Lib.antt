@@ -1,0 +1,4 @@
+pub mod Tag
+pub mod Small
+pub mod Laws
+pub mod Calls

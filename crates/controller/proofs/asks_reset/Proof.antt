@@ -1,0 +1,57 @@
+-- `controller::asks_reset` meets its contract, case by case.
+-- Assumes nothing.
+use mathlib.Core.Path.{sym, ap}
+use Rattle.controller.specs.Doing.{asksReset}
+use borrow.Author.Needs.{needs}
+use Rattle.controller.proofs.asks_reset.Statement.{statement}
+use Rattle.controller.proofs.asks_reset.Tie as tie
+
+enum-told : tie.Need-enum-told
+enum-told c = search needs
+
+enum-told-2 : tie.Need-enum-told-2
+enum-told-2 c = search needs
+
+enum-told-3 : tie.Need-enum-told-3
+enum-told-3 c = search needs
+
+enum-told-4 : tie.Need-enum-told-4
+enum-told-4 c = search needs
+
+enum-told-5 : tie.Need-enum-told-5
+enum-told-5 c = search needs
+
+returns : tie.Need-returns
+unfolding asksReset
+returns c = sym (ap asksReset (c .enum-told .given .1))
+
+returns-2 : tie.Need-returns-2
+unfolding asksReset
+returns-2 c = sym (ap asksReset (c .enum-told2 .given .1))
+
+returns-3 : tie.Need-returns-3
+unfolding asksReset
+returns-3 c = sym (ap asksReset (c .enum-told3 .given .1))
+
+returns-4 : tie.Need-returns-4
+unfolding asksReset
+returns-4 c = sym (ap asksReset (c .enum-told4 .given .1))
+
+returns-5 : tie.Need-returns-5
+unfolding asksReset
+returns-5 c = sym (ap asksReset (c .enum-told5 .given .1))
+
+pub asks-reset-spec : {M : Type 1} → statement M
+asks-reset-spec =
+    tie.close
+    (tie.spec
+    enum-told
+    enum-told-2
+    enum-told-3
+    enum-told-4
+    enum-told-5
+    returns
+    returns-2
+    returns-3
+    returns-4
+    returns-5)

@@ -1,0 +1,127 @@
+-- `controller::carry` meets its contract, request by request.
+-- Assumes nothing.
+use mathlib.Core.Path.{sym, ap, subst, _∙_}
+use lib.ListN.{length}
+use Rattle.laws.proofs.Choice.{both-true}
+use Rattle.slot.specs.declared.Session.{Session}
+use Rattle.slot.specs.Session.{regionOk, sessionOk}
+use Rattle.slot.specs.Act.{done}
+use Rattle.slot.specs.State.{stateOf}
+use Rattle.smp.specs.declared.Request.{Request}
+use Rattle.smp.specs.declared.Reading.{Reading}
+use Rattle.smp.proofs.Sound.{upload-inside}
+use Rattle.controller.specs.Doing.{actFor, replyFor}
+use Rattle.controller.specs.Carried.{Carried}
+use borrow.Author.Needs.{needs}
+use Rattle.controller.proofs.carry.Statement.{statement}
+use Rattle.controller.proofs.carry.Tie as tie
+
+enum-known-request : tie.Need-enum-known-request
+enum-known-request c = search needs
+
+enum-known-request-2 : tie.Need-enum-known-request-2
+enum-known-request-2 c = search needs
+
+enum-told : tie.Need-enum-told
+enum-told c = search needs
+
+closed-session-requires : tie.Need-closed-session-requires
+closed-session-requires c κs = search needs
+
+enum-known-request-3 : tie.Need-enum-known-request-3
+enum-known-request-3 c = search needs
+
+do-upload-requires : tie.Need-do-upload-requires
+do-upload-requires c κs =
+    let a = c .before .before .before .before .before .before .args in
+    let g = c .before .before .request3 .given in
+    let inside = upload-inside (a .packet .now) (g .0 .0) (c .before .before .before .before .before .before .pre .1 ∙ ap Reading.Is (g .1)) in
+    (c .before .before .before .before .before .before .pre .0, inside .0, inside .1)
+
+enum-told-2 : tie.Need-enum-told-2
+enum-told-2 c = search needs
+
+erase-requires : tie.Need-erase-requires
+erase-requires c κs =
+    let a = c .before .before .before .before .before .args in
+    both-true (regionOk (a .slot) (length (a .memory .now))) (sessionOk (a .slot) (a .session)) (c .before .before .before .before .before .pre .0) .0
+
+returns : tie.Need-returns
+unfolding actFor replyFor done
+returns c =
+    let a = c .before .before .before .before .before .args in
+    let st = stateOf (a .memory .now) (a .session) in
+    let e = c .before .request .given .1 in
+    record {
+      state = ap (λ (r : Request). done (a .slot) (actFor (a .slot) (a .session) (a .packet .now) r) st) (sym e);
+      reply = ap (λ (r : Request). replyFor (a .slot) (a .session) (a .packet .now) r) (sym e);
+    }
+
+returns-2 : tie.Need-returns-2
+unfolding actFor replyFor done
+returns-2 c =
+    let a = c .before .before .before .before .before .args in
+    let st = stateOf (a .memory .now) (a .session) in
+    let e = c .before .request2 .given .1 in
+    record {
+      state = ap (λ (r : Request). done (a .slot) (actFor (a .slot) (a .session) (a .packet .now) r) st) (sym e);
+      reply = ap (λ (r : Request). replyFor (a .slot) (a .session) (a .packet .now) r) (sym e);
+    }
+
+returns-3 : tie.Need-returns-3
+unfolding actFor replyFor done
+returns-3 c =
+    let a = c .before .before .before .before .before .args in
+    let st = stateOf (a .memory .now) (a .session) in
+    let e = c .before .enum-told .given .1 in
+    record {
+      state =
+          ap (λ (s : Session). stateOf (a .memory .now) s) (c .closed-session .ensures)
+          ∙ ap (λ (r : Request). done (a .slot) (actFor (a .slot) (a .session) (a .packet .now) r) st) (sym e);
+      reply = ap (λ (r : Request). replyFor (a .slot) (a .session) (a .packet .now) r) (sym e);
+    }
+
+same-length : tie.Need-same-length
+same-length c = search needs
+
+returns-4 : tie.Need-returns-4
+returns-4 c =
+    let a = c .before .before .before .before .before .before .before .before .before .args in
+    let st = stateOf (a .memory .now) (a .session) in
+    subst (λ (r : Request). Carried (a .slot) st (a .packet .now) r (c .before .before .do-upload .result) (c .before .before .do-upload .last .1 .1 .0)) (sym (c .before .before .before .before .before .request3 .given .1)) (c .before .before .do-upload .ensures)
+
+same-length-2 : tie.Need-same-length-2
+same-length-2 c = search needs
+
+returns-5 : tie.Need-returns-5
+unfolding actFor replyFor
+returns-5 c =
+    let a = c .before .before .before .before .before .before .before .before .args in
+    let st = stateOf (a .memory .now) (a .session) in
+    let e = c .before .before .before .before .enum-told2 .given .1 in
+    record {
+      state =
+          c .before .before .erase .ensures (a .session)
+          ∙ ap (λ (r : Request). done (a .slot) (actFor (a .slot) (a .session) (a .packet .now) r) st) (sym e);
+      reply = ap (λ (r : Request). replyFor (a .slot) (a .session) (a .packet .now) r) (sym e);
+    }
+
+pub carry-spec : {M : Type 1} → statement M
+carry-spec =
+    tie.close
+    (tie.spec
+    enum-known-request
+    enum-known-request-2
+    enum-told
+    closed-session-requires
+    enum-known-request-3
+    do-upload-requires
+    enum-told-2
+    erase-requires
+    returns
+    returns-2
+    returns-3
+    same-length
+    returns-4
+    same-length-2
+    returns-5)
