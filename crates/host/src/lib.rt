@@ -1,8 +1,25 @@
 // The host's end of a packet: requests written into a lent buffer, replies read, and the next sequence number.
+use map::Field;
+use map::Fields;
+use map::Kind;
+use map::Walked;
 use refusal::Refusal;
 use slot::Number;
 use smp::Header;
 use smp::Run;
+ghost use mathlib.Core.Path.{_≡_};
+ghost use mathlib.Core.Bool.{false};
+ghost use mathlib.Core.List.{_++_};
+ghost use Prim.Native.Nat.{_+_, _-_, _≤_};
+ghost use lib.ListN.{length};
+ghost use Rattle.laws.specs.Bytes.{pasted};
+ghost use Rattle.cbor.specs.Put.{Put};
+ghost use Rattle.cbor.specs.Write.{bytesOf, textOf};
+ghost use Rattle.slot.specs.Plan.{above, largest};
+ghost use Rattle.smp.specs.Packet.{headerBytes};
+ghost use Rattle.host.specs.Write.{requestHeader, requestPacket, echoMap, laterMap, firstMap, outcome, put, misSized, writeEcho, writeReset, writeErase, writeFirst, writeUpload, nextSequence};
+ghost use Rattle.host.specs.Read.{said, orZero, valuesOf, isReply, readReply};
+ghost use Rattle.host.specs.Steps.{sendable, emptyRequest, firstPairs, replyOf};
 
 // What a request writer says.
 pub enum Written {
@@ -24,4 +41,322 @@ pub struct Reply {
 pub enum Heard {
     Reply(Reply),
     Refused(Refusal),
+}
+
+// Whether a packet of this many bytes may be sent and goes into this room.
+fn is_sendable(total: usize, room: usize) -> bool
+    ensures { λ r. ⌜ r ≡ sendable total room ⌝ }
+{
+    if 65533 < total {
+        return false;
+    }
+    total <= room
+}
+
+// Writes the header of a request to the start of buf, in front of its map, which ends before place end.
+fn put_front(buf: &mut [u8], group: usize, sequence: u8, command: u8, end: usize)
+    requires { ⌜ (8 ≤ end) × (8 ≤ length (now buf)) ⌝ }
+    ensures { λ _. ⌜ now (buf .exit) ≡ pasted (now (buf .entry)) 0 (headerBytes (requestHeader group sequence command (end - 8))) ⌝ }
+{
+    let header = Header {
+        op: 2,
+        flags: 0,
+        length: end - 8,
+        group,
+        sequence,
+        command,
+    };
+    smp::put_header(buf, header);
+}
+
+// Writes a byte string into buf from place at on, and gives the place after it.
+fn put_string(buf: &mut [u8], at: usize, x: &[u8]) -> usize
+    requires { ⌜ at + length (bytesOf (now x)) ≤ length (now buf) ⌝ }
+    ensures { λ r. ⌜ Put r (now (buf .exit)) (now (buf .entry)) at (bytesOf (now (x .entry))) ⌝ }
+{
+    let next = cbor::put_head(buf, at, 2, x.len() as u64);
+    laws::put(buf, next, x);
+    next + x.len()
+}
+
+// Writes a key of this name with a byte string into buf from place at on, and gives the place after them.
+fn put_bytes(buf: &mut [u8], at: usize, name: &[u8], x: &[u8]) -> usize
+    requires { ⌜ at + length (textOf (now name) ++ bytesOf (now x)) ≤ length (now buf) ⌝ }
+    ensures { λ r. ⌜ Put r (now (buf .exit)) (now (buf .entry)) at (textOf (now (name .entry)) ++ bytesOf (now (x .entry))) ⌝ }
+{
+    let next = smp::put_text(buf, at, name);
+    put_string(buf, next, x)
+}
+
+// Writes a request of command 5 with an empty map.
+fn write_empty(group: usize, sequence: u8, out: &mut [u8]) -> Written
+    ensures { λ r. ⌜ outcome r (now (out .exit)) ≡ emptyRequest group sequence (now (out .entry)) ⌝ }
+{
+    if !is_sendable(9, out.len()) {
+        return Written::Refused(Refusal::Unsendable);
+    }
+    let end = cbor::put_head(out, 8, 5, 0);
+    put_front(out, group, sequence, 5, end);
+    Written::Packet(end)
+}
+
+// Writes a reset request to the start of out.
+pub fn write_reset(sequence: u8, out: &mut [u8]) -> Written
+    ensures { λ r. ⌜ outcome r (now (out .exit)) ≡ writeReset sequence (now (out .entry)) ⌝ }
+{
+    write_empty(0, sequence, out)
+}
+
+// Writes an erase request to the start of out.
+pub fn write_erase(sequence: u8, out: &mut [u8]) -> Written
+    ensures { λ r. ⌜ outcome r (now (out .exit)) ≡ writeErase sequence (now (out .entry)) ⌝ }
+{
+    write_empty(1, sequence, out)
+}
+
+// Writes the map {"d": text} into buf from place 8 on, and gives the place after it.
+fn put_echo(buf: &mut [u8], text: &[u8]) -> usize
+    requires { ⌜ 8 + length (echoMap (now text)) ≤ length (now buf) ⌝ }
+    ensures { λ r. ⌜ Put r (now (buf .exit)) (now (buf .entry)) 8 (echoMap (now (text .entry))) ⌝ }
+{
+    let first = cbor::put_head(buf, 8, 5, 1);
+    let second = smp::put_text(buf, first, b"d");
+    smp::put_text(buf, second, text)
+}
+
+// Writes an echo request to the start of out.
+pub fn write_echo(sequence: u8, text: &[u8], out: &mut [u8]) -> Written
+    ensures { λ r. ⌜ outcome r (now (out .exit)) ≡ writeEcho sequence (now (text .entry)) (now (out .entry)) ⌝ }
+{
+    let n = text.len();
+    let total = 11 + cbor::head_len(n as u64) + n;
+    if !is_sendable(total, out.len()) {
+        return Written::Refused(Refusal::Unsendable);
+    }
+    let end = put_echo(out, text);
+    put_front(out, 0, sequence, 0, end);
+    Written::Packet(end)
+}
+
+// Writes the map {"data": data, "off": off} into buf from place 8 on, and gives the place after it.
+fn put_later(buf: &mut [u8], data: &[u8], off: u64) -> usize
+    requires { ⌜ 8 + length (laterMap (now «data») off) ≤ length (now buf) ⌝ }
+    ensures { λ r. ⌜ Put r (now (buf .exit)) (now (buf .entry)) 8 (laterMap (now («data» .entry)) off) ⌝ }
+{
+    let first = cbor::put_head(buf, 8, 5, 2);
+    let second = put_bytes(buf, first, b"data", data);
+    smp::put_number(buf, second, b"off", off)
+}
+
+// Writes the pairs "data": data, "len": size, "off": 0 into buf from place at on, and gives the place after them.
+fn put_pairs(buf: &mut [u8], at: usize, data: &[u8], size: u64) -> usize
+    requires { ⌜ at + length (firstPairs (now «data») size) ≤ length (now buf) ⌝ }
+    ensures { λ r. ⌜ Put r (now (buf .exit)) (now (buf .entry)) at (firstPairs (now («data» .entry)) size) ⌝ }
+{
+    let first = put_bytes(buf, at, b"data", data);
+    let second = smp::put_number(buf, first, b"len", size);
+    smp::put_number(buf, second, b"off", 0)
+}
+
+// Writes the map of an upload at offset 0 into buf from place 8 on, and gives the place after it.
+fn put_first(buf: &mut [u8], data: &[u8], size: u64, tag: &[u8]) -> usize
+    requires { ⌜ 8 + length (firstMap (now «data») size (now tag)) ≤ length (now buf) ⌝ }
+    ensures { λ r. ⌜ Put r (now (buf .exit)) (now (buf .entry)) 8 (firstMap (now («data» .entry)) size (now (tag .entry))) ⌝ }
+{
+    if tag.len() == 0 {
+        let first = cbor::put_head(buf, 8, 5, 3);
+        return put_pairs(buf, first, data, size);
+    }
+    let first = cbor::put_head(buf, 8, 5, 4);
+    let second = put_pairs(buf, first, data, size);
+    put_bytes(buf, second, b"sha", tag)
+}
+
+// Writes an upload request past offset 0, where it can be sent.
+fn send_later(sequence: u8, data: &[u8], off: u64, out: &mut [u8]) -> Written
+    ensures { λ r. ⌜ outcome r (now (out .exit)) ≡ put (requestPacket 1 sequence 1 (laterMap (now («data» .entry)) off)) (now (out .entry)) ⌝ }
+{
+    let n = data.len();
+    let total = 18 + cbor::head_len(n as u64) + n + cbor::head_len(off);
+    if !is_sendable(total, out.len()) {
+        return Written::Refused(Refusal::Unsendable);
+    }
+    let end = put_later(out, data, off);
+    put_front(out, 1, sequence, 1, end);
+    Written::Packet(end)
+}
+
+// Whether a tag is neither absent nor of 32 bytes.
+fn is_mis_sized(tag: &[u8]) -> bool
+    ensures { λ r. ⌜ r ≡ misSized (now (tag .entry)) ⌝ }
+{
+    let n = tag.len();
+    if n == 0 {
+        return false;
+    }
+    n != 32
+}
+
+// How long the packet of an upload at offset 0 is.
+fn first_len(data: &[u8], size: u64, tag: &[u8]) -> usize
+    requires { ⌜ length (now «data») ≤ 4294967295 ⌝ }
+    requires { ⌜ misSized (now tag) ≡ false ⌝ }
+    ensures { λ r. ⌜ r ≡ 8 + length (firstMap (now («data» .entry)) size (now (tag .entry))) ⌝ }
+{
+    let n = data.len();
+    let total = 23 + cbor::head_len(n as u64) + n + cbor::head_len(size);
+    if tag.len() == 0 {
+        return total;
+    }
+    total + 38
+}
+
+// Writes an upload request at offset 0, where it can be sent.
+fn send_first(sequence: u8, data: &[u8], size: u64, tag: &[u8], out: &mut [u8]) -> Written
+    requires { ⌜ length (now «data») ≤ 4294967295 ⌝ }
+    requires { ⌜ misSized (now tag) ≡ false ⌝ }
+    ensures { λ r. ⌜ outcome r (now (out .exit)) ≡ put (requestPacket 1 sequence 1 (firstMap (now («data» .entry)) size (now (tag .entry)))) (now (out .entry)) ⌝ }
+{
+    let total = first_len(data, size, tag);
+    if !is_sendable(total, out.len()) {
+        return Written::Refused(Refusal::Unsendable);
+    }
+    let end = put_first(out, data, size, tag);
+    put_front(out, 1, sequence, 1, end);
+    Written::Packet(end)
+}
+
+// Writes an upload request at offset 0 to the start of out.
+fn write_first(sequence: u8, data: &[u8], size: u64, tag: &[u8], out: &mut [u8]) -> Written
+    ensures { λ r. ⌜ outcome r (now (out .exit)) ≡ writeFirst sequence (now («data» .entry)) size (now (tag .entry)) (now (out .entry)) ⌝ }
+{
+    if size == 0 {
+        return Written::Refused(Refusal::Unsendable);
+    }
+    if 4294967295 < size {
+        return Written::Refused(Refusal::Unsendable);
+    }
+    let n = data.len() as u64;
+    if size < n {
+        return Written::Refused(Refusal::Unsendable);
+    }
+    let mis_sized = is_mis_sized(tag);
+    if mis_sized {
+        return Written::Refused(Refusal::Unsendable);
+    }
+    send_first(sequence, data, size, tag, out)
+}
+
+// Writes an upload request to the start of out.
+pub fn write_upload(
+    sequence: u8,
+    data: &[u8],
+    off: u64,
+    length: u64,
+    tag: &[u8],
+    out: &mut [u8],
+) -> Written
+    ensures { λ r. ⌜ outcome r (now (out .exit)) ≡ writeUpload sequence (now («data» .entry)) off length (now (tag .entry)) (now (out .entry)) ⌝ }
+{
+    if 4294967295 < off {
+        return Written::Refused(Refusal::Unsendable);
+    }
+    let n = data.len();
+    if n == 0 {
+        return Written::Refused(Refusal::Unsendable);
+    }
+    if off == 0 {
+        return write_first(sequence, data, length, tag, out);
+    }
+    send_later(sequence, data, off, out)
+}
+
+// Whether a number that is there is above the largest of four bytes.
+fn is_large(number: Number) -> bool
+    ensures { λ r. ⌜ r ≡ above largest number ⌝ }
+{
+    let Number::Is(n) = number else {
+        return false;
+    };
+    4294967295 < n
+}
+
+// A number that may be absent, or 0.
+fn or_zero(number: Number) -> u64
+    ensures { λ r. ⌜ r ≡ orZero number ⌝ }
+{
+    let Number::Is(n) = number else {
+        return 0;
+    };
+    n
+}
+
+// Whether a packet is of a reply's kind.
+fn is_reply(s: &[u8]) -> bool
+    ensures { λ r. ⌜ r ≡ isReply (now (s .entry)) ⌝ }
+{
+    let sized = smp::is_sized(s);
+    if !sized {
+        return false;
+    }
+    let op = laws::byte_at(s, 0);
+    if op == 1 {
+        return true;
+    }
+    op == 3
+}
+
+// The values of a reply whose return code and offset are these.
+fn reply_of(s: &[u8], rc: Number, off: Number, text: Field) -> Reply
+    ensures { λ r. ⌜ r ≡ replyOf (now (s .entry)) rc off text ⌝ }
+{
+    let header = smp::header_in(s);
+    let code = or_zero(rc);
+    let run = smp::run_in(text);
+    Reply {
+        header,
+        rc: code,
+        off,
+        text: run,
+    }
+}
+
+// A reply's values, from its map's fields.
+fn values_of(s: &[u8], f: Fields) -> Heard
+    ensures { λ r. ⌜ said r ≡ valuesOf (now (s .entry)) f ⌝ }
+{
+    let rc_field = f.rc;
+    let off_field = f.off;
+    let text_field = f.text;
+    let rc = smp::number_in(rc_field);
+    if is_large(rc) {
+        return Heard::Refused(Refusal::WrongKind);
+    }
+    let off = smp::number_in(off_field);
+    if is_large(off) {
+        return Heard::Refused(Refusal::WrongKind);
+    }
+    Heard::Reply(reply_of(s, rc, off, text_field))
+}
+
+// A packet read as a reply: the text stays in the packet.
+pub fn read_reply(s: &[u8]) -> Heard
+    ensures { λ r. ⌜ said r ≡ readReply (now (s .entry)) ⌝ }
+{
+    let reply = is_reply(s);
+    if !reply {
+        return Heard::Refused(Refusal::WrongKind);
+    }
+    let walked = map::map_from(Kind::Reply, s, 8);
+    let Walked::Map(fields) = walked else {
+        return Heard::Refused(Refusal::WrongKind);
+    };
+    values_of(s, fields)
+}
+
+// The sequence number after this one.
+pub fn next_sequence(sequence: u8) -> u8
+    ensures { λ r. ⌜ r ≡ nextSequence sequence ⌝ }
+{
+    std::num::wrapping_add_u8(sequence, 1)
 }

@@ -161,7 +161,7 @@ fn command_of(h: Header) -> Command
 }
 
 // The number of a field.
-fn number_in(f: Field) -> Number
+pub fn number_in(f: Field) -> Number
     ensures { λ r. ⌜ r ≡ numberIn f ⌝ }
 {
     let Field::Is(value) = f else {
@@ -178,7 +178,7 @@ fn number_in(f: Field) -> Number
 }
 
 // The string of a field, bytes or text.
-fn run_in(f: Field) -> Run
+pub fn run_in(f: Field) -> Run
     ensures { λ r. ⌜ r ≡ runIn f ⌝ }
 {
     let Field::Is(value) = f else {
@@ -388,7 +388,7 @@ fn put_two(buf: &mut [u8], at: usize, a: u8, b: u8)
 }
 
 // Writes a header into the first eight bytes of buf; the other bytes of buf stay.
-fn put_header(buf: &mut [u8], h: Header)
+pub fn put_header(buf: &mut [u8], h: Header)
     requires { ⌜ 8 ≤ length (now buf) ⌝ }
     ensures { λ _. ⌜ now (buf .exit) ≡ pasted (now (buf .entry)) 0 (headerBytes h) ⌝ }
 {
@@ -399,7 +399,7 @@ fn put_header(buf: &mut [u8], h: Header)
 }
 
 // Writes a text string into buf from place at on, and gives the place after it.
-fn put_text(buf: &mut [u8], at: usize, text: &[u8]) -> usize
+pub fn put_text(buf: &mut [u8], at: usize, text: &[u8]) -> usize
     requires { ⌜ at + length (textOf (now text)) ≤ length (now buf) ⌝ }
     ensures { λ r. ⌜ Put r (now (buf .exit)) (now (buf .entry)) at (textOf (now (text .entry))) ⌝ }
 {
@@ -409,7 +409,7 @@ fn put_text(buf: &mut [u8], at: usize, text: &[u8]) -> usize
 }
 
 // Writes a key of this name with a number into buf from place at on, and gives the place after them.
-fn put_number(buf: &mut [u8], at: usize, name: &[u8], n: u64) -> usize
+pub fn put_number(buf: &mut [u8], at: usize, name: &[u8], n: u64) -> usize
     requires { ⌜ at + length (textOf (now name) ++ unsigned n) ≤ length (now buf) ⌝ }
     ensures { λ r. ⌜ Put r (now (buf .exit)) (now (buf .entry)) at (textOf (now (name .entry)) ++ unsigned n) ⌝ }
 {
@@ -489,7 +489,8 @@ fn put_reply(h: Header, s: &[u8], reply: Reply, buf: &mut [u8]) -> usize
     end
 }
 
-// Whether a reply fits into this many bytes, at least 32: only an echo's can be too long.
+// Whether a reply to the request s fits into this many bytes, at least 32: only an echo's can be too long. (The numbers are bound so that
+// their range is known.)
 fn fits_in(s: &[u8], reply: Reply, room: usize) -> bool
     requires { ⌜ 32 ≤ room ⌝ }
     requires { ⌜ Sayable (now s) reply ⌝ }

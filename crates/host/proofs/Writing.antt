@@ -1,0 +1,175 @@
+-- A request that is written: its header in front of its map, how long each map is, and when it is refused.
+-- Assumes nothing.
+use mathlib.Core.Path.{_≡_, sym, ap, ap₂, _∙_}
+use mathlib.Core.Bool.{true, false, false≢true}
+use mathlib.Core.List.{List, _++_, append-assoc}
+use Prim.Native.Nat.{ℕ, suc, _+_, _-_, _≤_, _<_}
+use native.Mathlib.Decide.{decLt, decLe}
+use native.Mathlib.Omega.{arith}
+use lib.Dec.{leb, lit<}
+use borrow.Author.Tests.{le-ltb, lt-ltb, le-leb, leb-true, eq-eqb, ne-eqb}
+use lib.ListN.{length, length-append}
+use Rattle.laws.specs.Bytes.{pasted}
+use Rattle.laws.proofs.Choice.{pick-yes, pick-no, both-yes, both-true}
+use Rattle.cbor.specs.Put.{Put}
+use Rattle.cbor.specs.Write.{headOf, unsigned, bytesOf, textOf, mapOf}
+use Rattle.cbor.proofs.Laws.{head-size, head-length, form-one, form-eight}
+use Rattle.map.specs.Keys.{nameD, nameData, nameLen, nameOff, nameSha}
+use Rattle.smp.specs.Packet.{headerBytes}
+use Rattle.smp.proofs.Headers.{header-length}
+use Rattle.smp.proofs.Writing.{pasted-front, head-tiny, head-word}
+use Rattle.host.specs.declared.Written.the-variants.{Packet}
+use Rattle.host.specs.Write.{requestHeader, requestPacket, echoMap, laterMap, firstMap, misSized, outcome, unsendable, put}
+use Rattle.host.specs.Steps.{sendable, firstPairs}
+
+-- a request is eight bytes longer than its map
+pub request-length : (group sequence command : ℕ) (m : List ℕ) → length (requestPacket group sequence command m) ≡ 8 + length m
+unfolding requestPacket
+request-length group sequence command m = rw (length-append, header-length (requestHeader group sequence command (length m)))
+
+-- a map at place 8 and then the header with its length in front of it are the request
+pub request-put : (group sequence command : ℕ) (m : List ℕ) {d e₁ e₂ : List ℕ} (end : ℕ) → 8 + length m ≤ length d
+    → Put end e₁ d 8 m
+    → e₂ ≡ pasted e₁ 0 (headerBytes (requestHeader group sequence command (end - 8)))
+    → Put end e₂ d 0 (requestPacket group sequence command m)
+unfolding requestPacket
+request-put group sequence command m {d} {e₁} {e₂} end room p w =
+    let e : end - 8 ≡ length m = omega (arith, p .place) in
+    let size : length (headerBytes (requestHeader group sequence command (length m))) ≡ 8 = header-length (requestHeader group sequence command (length m)) in
+    record {
+      place = rw length-append (omega (arith, p .place));
+      written =
+          w
+          ∙ ap₂ (λ (l : List ℕ) (n : ℕ). pasted l 0 (headerBytes (requestHeader group sequence command n))) (p .written) e
+          ∙ pasted-front d 8 (headerBytes (requestHeader group sequence command (length m))) m size room;
+    }
+
+-- a length that may be sent is neither over 65,533 nor longer than the room
+pub sendable-fits : (total room : ℕ) → sendable total room ≡ true → (total ≤ 65533) × (total ≤ room)
+unfolding sendable
+sendable-fits total room e =
+    let t = both-true (leb total 65533) (leb total room) e in
+    (leb-true total 65533 (t .0), leb-true total room (t .1))
+
+-- a request that may be sent is written
+pub request-sent : (group sequence command : ℕ) (m : List ℕ) {d e₁ e₂ : List ℕ} (total end : ℕ) → total ≡ 8 + length m
+    → sendable total (length d) ≡ true
+    → Put end e₁ d 8 m
+    → e₂ ≡ pasted e₁ 0 (headerBytes (requestHeader group sequence command (end - 8)))
+    → outcome (Packet end) e₂ ≡ put (requestPacket group sequence command m) d
+unfolding put
+request-sent group sequence command m {d} {e₁} {e₂} total end size may p w =
+    let n = request-length group sequence command m in
+    let t = sendable-fits total (length d) may in
+    let whole : Put end e₂ d 0 (requestPacket group sequence command m) = request-put group sequence command m end (omega (arith, t)) p w in
+    let a : length (requestPacket group sequence command m) ≤ 65533 = omega (arith, t) in
+    let b : length (requestPacket group sequence command m) ≤ length d = omega (arith, t) in
+    let c : end ≡ length (requestPacket group sequence command m) = omega (arith, whole .place) in
+    simp (le-ltb 65533 _ a, le-ltb (length d) _ b, pick-no, c, whole .written)
+
+-- a request that may not be sent is refused
+pub request-refused : (group sequence command : ℕ) (m d : List ℕ) (total : ℕ) → total ≡ 8 + length m → sendable total (length d) ≡ false → unsendable d ≡ put (requestPacket group sequence command m) d
+unfolding put sendable
+request-refused group sequence command m d total size may =
+    let n = request-length group sequence command m in
+    elim (decLt 65533 total) [
+      | yes a ↦
+          let b : 65533 < length (requestPacket group sequence command m) = omega arith in
+          simp (lt-ltb 65533 _ b, pick-yes)
+      | no a ↦ elim (decLt (length d) total) [
+        | yes b ↦
+            let k : length (requestPacket group sequence command m) ≤ 65533 = omega arith in
+            let l : length d < length (requestPacket group sequence command m) = omega arith in
+            simp (le-ltb 65533 _ k, lt-ltb (length d) _ l, pick-yes, pick-no)
+        | no b ↦
+            let k : total ≤ 65533 = omega arith in
+            let l : total ≤ length d = omega arith in
+            absurd (false≢true (sym may ∙ simp (le-leb total 65533 k, le-leb total (length d) l, both-yes)))
+      ]
+    ]
+
+-- no head is longer than nine bytes
+pub head-most : (m n : ℕ) → length (headOf m n) ≤ 9
+head-most m n =
+    elim (decLt n 4294967296) [
+      | yes a ↦ omega (arith, head-word m n a)
+      | no a ↦ omega (arith, head-size m n, form-eight n (omega arith) .1)
+    ]
+
+-- an argument from 24 to 255 has a head of two bytes
+head-small : (m n : ℕ) → 23 < n → n < 256 → length (headOf m n) ≡ 2
+head-small m n h k = head-size m n ∙ ap suc (form-one n (omega arith) k .1)
+
+-- each map in the parts that its writer writes
+pub echo-parts : (text : List ℕ) → echoMap text ≡ (mapOf 1 ++ textOf nameD) ++ textOf text
+unfolding echoMap
+echo-parts text = sym (append-assoc (mapOf 1) (textOf nameD) (textOf text))
+
+pub later-parts : (x : List ℕ) (off : ℕ) → laterMap x off ≡ (mapOf 2 ++ (textOf nameData ++ bytesOf x)) ++ (textOf nameOff ++ unsigned off)
+unfolding laterMap
+later-parts x off =
+    ap (λ (l : List ℕ). mapOf 2 ++ l) (sym (append-assoc (textOf nameData) (bytesOf x) (textOf nameOff ++ unsigned off)))
+    ∙ sym (append-assoc (mapOf 2) (textOf nameData ++ bytesOf x) (textOf nameOff ++ unsigned off))
+
+-- the pairs of an upload at offset 0, one by one, before what follows them
+pairs-flat : (x : List ℕ) (size : ℕ) (post : List ℕ) → textOf nameData ++ (bytesOf x ++ (textOf nameLen ++ (unsigned size ++ (textOf nameOff ++ (unsigned 0 ++ post))))) ≡ firstPairs x size ++ post
+pairs-flat x size post = simp append-assoc
+
+pairs-last : (x : List ℕ) (size : ℕ) → textOf nameData ++ (bytesOf x ++ (textOf nameLen ++ (unsigned size ++ (textOf nameOff ++ unsigned 0)))) ≡ firstPairs x size
+pairs-last x size = simp append-assoc
+
+pub first-untagged : (x : List ℕ) (size : ℕ) (tag : List ℕ) → length tag ≡ 0 → firstMap x size tag ≡ mapOf 3 ++ firstPairs x size
+unfolding firstMap
+first-untagged x size tag e = rw (eq-eqb (length tag) 0 e, pick-yes) (ap (λ (l : List ℕ). mapOf 3 ++ l) (pairs-last x size))
+
+pub first-tagged : (x : List ℕ) (size : ℕ) (tag : List ℕ) → (length tag ≡ 0 → ⊥) → firstMap x size tag ≡ (mapOf 4 ++ firstPairs x size) ++ (textOf nameSha ++ bytesOf tag)
+unfolding firstMap
+first-tagged x size tag e =
+    rw (ne-eqb (length tag) 0 e, pick-no)
+    (ap (λ (l : List ℕ). mapOf 4 ++ l) (pairs-flat x size (textOf nameSha ++ bytesOf tag)) ∙ sym (append-assoc (mapOf 4) (firstPairs x size) (textOf nameSha ++ bytesOf tag)))
+
+-- how long each map is
+pub echo-length : (text : List ℕ) → length (echoMap text) ≡ 3 + length (headOf 0 (length text)) + length text
+unfolding echoMap
+echo-length text = simp length-append (omega (arith, head-tiny 5 1 (lit< tt), head-tiny 3 1 (lit< tt), head-length 3 (length text)))
+
+pub later-length : (x : List ℕ) (off : ℕ) → length (laterMap x off) ≡ 10 + length (headOf 0 (length x)) + length x + length (headOf 0 off)
+unfolding laterMap
+later-length x off = simp length-append (omega (arith, head-tiny 5 2 (lit< tt), head-tiny 3 4 (lit< tt), head-tiny 3 3 (lit< tt), head-length 2 (length x)))
+
+pairs-length : (x : List ℕ) (size : ℕ) → length (firstPairs x size) ≡ 14 + length (headOf 0 (length x)) + length x + length (headOf 0 size)
+pairs-length x size = simp length-append (omega (arith, head-tiny 3 4 (lit< tt), head-tiny 3 3 (lit< tt), head-tiny 0 0 (lit< tt), head-length 2 (length x)))
+
+pub first-length-untagged : (x : List ℕ) (size : ℕ) (tag : List ℕ) → length tag ≡ 0 → length (firstMap x size tag) ≡ 15 + length (headOf 0 (length x)) + length x + length (headOf 0 size)
+first-length-untagged x size tag e =
+    ap length (first-untagged x size tag e) ∙ length-append (mapOf 3) (firstPairs x size) ∙ omega (arith, head-tiny 5 3 (lit< tt), pairs-length x size)
+
+pub first-length-tagged : (x : List ℕ) (size : ℕ) (tag : List ℕ) → length tag ≡ 32 → length (firstMap x size tag) ≡ 53 + length (headOf 0 (length x)) + length x + length (headOf 0 size)
+first-length-tagged x size tag e =
+    let apart : length tag ≡ 0 → ⊥ = λ z. omega arith in
+    ap length (first-tagged x size tag apart) ∙ sizes
+  where
+    tag-length : length (textOf nameSha ++ bytesOf tag) ≡ 38
+    tag-length = simp (length-append, e) (omega (arith, head-tiny 3 3 (lit< tt), head-small 2 32 (lit< tt) (lit< tt)))
+
+    sizes : length ((mapOf 4 ++ firstPairs x size) ++ (textOf nameSha ++ bytesOf tag)) ≡ 53 + length (headOf 0 (length x)) + length x + length (headOf 0 size)
+    sizes =
+        length-append (mapOf 4 ++ firstPairs x size) (textOf nameSha ++ bytesOf tag)
+        ∙ ap₂ (λ (a b : ℕ). a + b) (length-append (mapOf 4) (firstPairs x size)) tag-length
+        ∙ omega (arith, head-tiny 5 4 (lit< tt), pairs-length x size)
+
+-- a tag of the right size that is not absent is of 32 bytes
+pub tag-size : (tag : List ℕ) → misSized tag ≡ false → (length tag ≡ 0 → ⊥) → length tag ≡ 32
+unfolding misSized
+tag-size tag e apart =
+    elim (decLe (length tag) 31) [
+      | yes a ↦
+          let other : length tag ≡ 32 → ⊥ = λ z. omega arith in
+          absurd (false≢true (sym e ∙ simp (ne-eqb (length tag) 0 apart, ne-eqb (length tag) 32 other, both-yes)))
+      | no a ↦ elim (decLe (length tag) 32) [
+        | yes b ↦ omega arith
+        | no b ↦
+            let other : length tag ≡ 32 → ⊥ = λ z. omega arith in
+            absurd (false≢true (sym e ∙ simp (ne-eqb (length tag) 0 apart, ne-eqb (length tag) 32 other, both-yes)))
+      ]
+    ]

@@ -1,0 +1,118 @@
+-- What each call of the C interface returns, and what every lent number and byte holds afterwards.
+-- Assumes nothing.
+use Prim.Native.Nat.{ℕ}
+use mathlib.Core.Bool.{Bool, true, false, not}
+use mathlib.Core.List.{List, [], _∷_}
+use lib.Dec.{eqb}
+use lib.ListN.{length, replicate}
+use Rattle.laws.specs.Choice.{pick, both}
+use Rattle.reader.specs.declared.Reader.{Reader}
+use Rattle.reader.specs.Reader as reading
+use Rattle.sender.specs.Sender as sending
+use Rattle.slot.specs.declared.Slot.{Slot}
+use Rattle.slot.specs.Session as slots
+use Rattle.slot.specs.Act.{State}
+use Rattle.controller.specs.Handle as handling
+use Rattle.host.specs.Write as writing
+use Rattle.host.specs.Read as hearing
+use Rattle.port.specs.Records.{readerOf, readerNumbers, sessionOf, sessionNumbers, replyNumbers}
+
+-- bg_take_line: the result, the record, the packet buffer and *body
+pub record TookLine : Type 0 where
+  pub result : ℕ
+  pub record-after : List ℕ
+  pub packet : List ℕ
+  pub body : ℕ
+
+-- refusals 2, 3 and 5 leave the record as it was lent
+abbrev pub keepsRecord : ℕ → Bool
+keepsRecord n = not (both (not (eqb n 2)) (both (not (eqb n 3)) (not (eqb n 5))))
+
+-- by what the reader said
+unfoldable pub tookBy : List ℕ → ℕ → Reader → List ℕ → reading.Said → TookLine
+tookBy r b reader p reading.more = record { result = 0; record-after = readerNumbers reader; packet = p; body = 0 }
+tookBy r b reader p (reading.body n) = record { result = 0; record-after = readerNumbers reader; packet = p; body = n }
+tookBy r b reader p (reading.refused n) =
+    record { result = n; record-after = pick (keepsRecord n) r (readerNumbers reader); packet = p; body = b }
+
+unfoldable pub tookLine : List ℕ → List ℕ → List ℕ → ℕ → TookLine
+tookLine r line p b =
+    let o : reading.Outcome = reading.takeLine (readerOf r) line p in
+    tookBy r b (o .reader) (o .buffer) (o .says)
+
+-- bg_send_frame: the result, the output and the two numbers
+pub record SentFrame : Type 0 where
+  pub result : ℕ
+  pub out : List ℕ
+  pub sent : List ℕ
+
+unfoldable pub sentBy : List ℕ → List ℕ → sending.Told → SentFrame
+sentBy sent out (sending.frameIs n count) = record { result = 0; out = out; sent = n ∷ count ∷ [] }
+sentBy sent out (sending.refused n) = record { result = n; out = out; sent = sent }
+
+unfoldable pub sentFrame : List ℕ → ℕ → List ℕ → List ℕ → SentFrame
+sentFrame body k out sent =
+    let o : sending.Outcome = sending.sendFrame body k out in
+    sentBy sent (o .buffer) (o .says)
+
+-- bg_configure: the result, the session numbers and the tag
+pub record ConfiguredC : Type 0 where
+  pub result : ℕ
+  pub session : List ℕ
+  pub tag : List ℕ
+
+unfoldable pub configuredBy : List ℕ → List ℕ → slots.Said → ConfiguredC
+configuredBy s tag (slots.ready slot) = record { result = 0; session = sessionNumbers slots.closed; tag = replicate 32 0 }
+configuredBy s tag (slots.refused n) = record { result = n; session = s; tag = tag }
+
+unfoldable pub configuredC : ℕ → ℕ → ℕ → List ℕ → List ℕ → ConfiguredC
+configuredC start size m s tag = configuredBy s tag (slots.configured start size m)
+
+-- bg_handle: the result, the memory, the session numbers and the tag, the reply buffer and the two numbers
+pub record HandledC : Type 0 where
+  pub result : ℕ
+  pub memory : List ℕ
+  pub session : List ℕ
+  pub tag : List ℕ
+  pub reply : List ℕ
+  pub answer : List ℕ
+
+-- a reply was written: the session record is that of the state after
+abbrev pub repliedC : ℕ → ℕ → State → List ℕ → HandledC
+repliedC n reset st b = record { result = 0; memory = st .memory; session = sessionNumbers (st .session); tag = st .session .tag; reply = b; answer = n ∷ reset ∷ [] }
+
+unfoldable pub handledBy : List ℕ → List ℕ → List ℕ → handling.Outcome → handling.Said → HandledC
+handledBy s tag a o (handling.replied n) = repliedC n 0 (o .state) (o .reply)
+handledBy s tag a o (handling.resetAsked n) = repliedC n 1 (o .state) (o .reply)
+handledBy s tag a o (handling.refused n) = record { result = n; memory = o .state .memory; session = s; tag = tag; reply = o .reply; answer = a }
+
+unfoldable pub handledC : List ℕ → ℕ → ℕ → List ℕ → List ℕ → List ℕ → List ℕ → List ℕ → HandledC
+handledC m start size s tag p b a =
+    let slot : Slot = record { start = start; size = size } in
+    let o : handling.Outcome = handling.handle slot (record { memory = m; session = sessionOf s tag }) p b in
+    handledBy s tag a o (o .says)
+
+-- the request writers: the result, the output and *packet_len
+pub record WroteC : Type 0 where
+  pub result : ℕ
+  pub out : List ℕ
+  pub size : ℕ
+
+unfoldable pub wroteBy : ℕ → List ℕ → writing.Told → WroteC
+wroteBy n out (writing.packet size) = record { result = 0; out = out; size = size }
+wroteBy n out (writing.refused r) = record { result = r; out = out; size = n }
+
+unfoldable pub wroteC : ℕ → writing.Outcome → WroteC
+wroteC n o = wroteBy n (o .buffer) (o .says)
+
+-- bg_read_reply: the result, and the reply's numbers
+pub record ReadC : Type 0 where
+  pub result : ℕ
+  pub reply : List ℕ
+
+unfoldable pub readBy : List ℕ → hearing.Said → ReadC
+readBy was (hearing.reply r) = record { result = 0; reply = replyNumbers r }
+readBy was (hearing.refused n) = record { result = n; reply = was }
+
+unfoldable pub readC : List ℕ → List ℕ → ReadC
+readC p was = readBy was (hearing.readReply p)

@@ -1,0 +1,83 @@
+-- The records as arrays of numbers, as they cross to C. Any number may stand in them.
+-- Assumes nothing.
+use Prim.Native.Nat.{ℕ}
+use mathlib.Core.Bool.{Bool, true, false, not}
+use mathlib.Core.List.{List, [], _∷_}
+use lib.Dec.{ltb, eqb}
+use lib.ListN.{getD}
+use Rattle.laws.specs.Choice.{pick}
+use Rattle.reader.specs.declared.Reader.{Reader}
+use Rattle.reader.specs.declared.Reader.the-variants.{Idle, Open}
+use Rattle.slot.specs.declared.Number.{Number}
+use Rattle.slot.specs.declared.Session.{Session}
+use Rattle.smp.specs.declared.Run.{Run}
+use Rattle.host.specs.declared.Reply.{Reply}
+
+-- a number as a flag: 0 is false
+abbrev pub flagOf : ℕ → Bool
+flagOf n = not (eqb n 0)
+
+-- a flag as a number: 0 or 1
+unfoldable pub numberOfFlag : Bool → ℕ
+numberOfFlag true = 1
+numberOfFlag false = 0
+
+-- the reader's record { open, total, come, first }; a first byte that is no byte makes it impossible
+unfoldable pub readerOf : List ℕ → Reader
+readerOf r =
+    pick (eqb (getD r 0 0) 0) Idle
+    (pick (ltb 255 (getD r 3 0)) (Open 0 0 0)
+    (Open (getD r 1 0) (getD r 2 0) (getD r 3 0)))
+
+-- the numbers of a reader's record; idle is all 0
+unfoldable pub readerNumbers : Reader → List ℕ
+readerNumbers Idle = 0 ∷ 0 ∷ 0 ∷ 0 ∷ []
+readerNumbers (Open total come first) = 1 ∷ total ∷ come ∷ first ∷ []
+
+-- the session record { open, length, place, tagged }, and its tag
+unfoldable pub sessionOf : List ℕ → List ℕ → Session
+sessionOf s tag = record { running = flagOf (getD s 0 0); length = getD s 1 0; place = getD s 2 0; tagged = flagOf (getD s 3 0); tag = tag }
+
+-- the numbers of a session record
+unfoldable pub sessionNumbers : Session → List ℕ
+sessionNumbers s = numberOfFlag (s .running) ∷ s .length ∷ s .place ∷ numberOfFlag (s .tagged) ∷ []
+
+-- a number that may be absent: whether it is there, and the number or 0
+unfoldable pub thereOf : Number → ℕ
+thereOf Number.Absent = 0
+thereOf (Number.Is n) = 1
+
+unfoldable pub orNone : Number → ℕ
+orNone Number.Absent = 0
+orNone (Number.Is n) = n
+
+-- a text that may be absent: whether it is there, where it starts, and its length
+unfoldable pub runThere : Run → ℕ
+runThere Run.Absent = 0
+runThere (Run.At start len) = 1
+
+unfoldable pub runStart : Run → ℕ
+runStart Run.Absent = 0
+runStart (Run.At start len) = start
+
+unfoldable pub runLength : Run → ℕ
+runLength Run.Absent = 0
+runLength (Run.At start len) = len
+
+-- the numbers of a reply: op, flags, payload length, group, sequence, command, rc, whether off is there, off, whether a text is there, its
+-- start and its length
+unfoldable pub replyNumbers : Reply → List ℕ
+replyNumbers r =
+    r .header .op
+    ∷ r .header .flags
+    ∷ r .header .length
+    ∷ r .header .group
+    ∷ r .header .sequence
+    ∷ r .header .command
+    ∷ r .rc
+    ∷ thereOf (r .off)
+    ∷ orNone (r .off)
+    ∷ runThere (r .text)
+    ∷ runStart (r .text)
+    ∷ runLength (r .text)
+    ∷ []
