@@ -1,1 +1,4 @@
 pub mod Writing
+pub mod Walking
+pub mod Maps
+pub mod Meant

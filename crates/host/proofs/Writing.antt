@@ -8,9 +8,11 @@ use native.Mathlib.Decide.{decLt, decLe}
 use native.Mathlib.Omega.{arith}
 use lib.Dec.{leb, lit<}
 use borrow.Author.Tests.{le-ltb, lt-ltb, le-leb, leb-true, eq-eqb, ne-eqb}
-use lib.ListN.{length, length-append}
+use lib.ListN.{length, take, drop, length-append}
+use lib.Seq.{take-at}
 use Rattle.laws.specs.Bytes.{pasted}
 use Rattle.laws.proofs.Choice.{pick-yes, pick-no, both-yes, both-true}
+use Rattle.laws.proofs.Lists.{pasted-start}
 use Rattle.cbor.specs.Put.{Put}
 use Rattle.cbor.specs.Write.{headOf, unsigned, bytesOf, textOf, mapOf}
 use Rattle.cbor.proofs.Laws.{head-size, head-length, form-one, form-eight}
@@ -19,7 +21,7 @@ use Rattle.smp.specs.Packet.{headerBytes}
 use Rattle.smp.proofs.Headers.{header-length}
 use Rattle.smp.proofs.Writing.{pasted-front, head-tiny, head-word}
 use Rattle.host.specs.declared.Written.the-variants.{Packet}
-use Rattle.host.specs.Write.{requestHeader, requestPacket, echoMap, laterMap, firstMap, misSized, outcome, unsendable, put}
+use Rattle.host.specs.Write.{requestHeader, requestPacket, echoMap, laterMap, firstMap, misSized, Outcome, packet, refused, outcome, unsendable, put}
 use Rattle.host.specs.Steps.{sendable, firstPairs}
 
 -- a request is eight bytes longer than its map
@@ -51,42 +53,73 @@ sendable-fits total room e =
     let t = both-true (leb total 65533) (leb total room) e in
     (leb-true total 65533 (t .0), leb-true total room (t .1))
 
+-- a packet that is over 65,533 bytes is refused
+pub put-over : (p out : List ℕ) → 65533 < length p → put p out ≡ unsendable out
+unfolding put
+put-over p out h = simp (lt-ltb 65533 _ h, pick-yes)
+
+-- so is one that is longer than the output
+pub put-long : (p out : List ℕ) → length p ≤ 65533 → length out < length p → put p out ≡ unsendable out
+unfolding put
+put-long p out h k = simp (le-ltb 65533 _ h, lt-ltb (length out) _ k, pick-yes, pick-no)
+
+-- another is written to the start of the buffer
+pub put-whole : (p out : List ℕ) → length p ≤ 65533 → length p ≤ length out → put p out ≡ record { says = packet (length p); buffer = pasted out 0 p }
+unfolding put
+put-whole p out h k = simp (le-ltb 65533 _ h, le-ltb (length out) _ k, pick-no)
+
 -- a request that may be sent is written
 pub request-sent : (group sequence command : ℕ) (m : List ℕ) {d e₁ e₂ : List ℕ} (total end : ℕ) → total ≡ 8 + length m
     → sendable total (length d) ≡ true
     → Put end e₁ d 8 m
     → e₂ ≡ pasted e₁ 0 (headerBytes (requestHeader group sequence command (end - 8)))
     → outcome (Packet end) e₂ ≡ put (requestPacket group sequence command m) d
-unfolding put
 request-sent group sequence command m {d} {e₁} {e₂} total end size may p w =
     let n = request-length group sequence command m in
     let t = sendable-fits total (length d) may in
     let whole : Put end e₂ d 0 (requestPacket group sequence command m) = request-put group sequence command m end (omega (arith, t)) p w in
-    let a : length (requestPacket group sequence command m) ≤ 65533 = omega (arith, t) in
-    let b : length (requestPacket group sequence command m) ≤ length d = omega (arith, t) in
     let c : end ≡ length (requestPacket group sequence command m) = omega (arith, whole .place) in
-    simp (le-ltb 65533 _ a, le-ltb (length d) _ b, pick-no, c, whole .written)
+    ap₂ (λ (k : ℕ) (l : List ℕ). outcome (Packet k) l) c (whole .written)
+    ∙ sym (put-whole (requestPacket group sequence command m) d (omega (arith, t)) (omega (arith, t)))
 
 -- a request that may not be sent is refused
 pub request-refused : (group sequence command : ℕ) (m d : List ℕ) (total : ℕ) → total ≡ 8 + length m → sendable total (length d) ≡ false → unsendable d ≡ put (requestPacket group sequence command m) d
-unfolding put sendable
+unfolding sendable
 request-refused group sequence command m d total size may =
     let n = request-length group sequence command m in
     elim (decLt 65533 total) [
-      | yes a ↦
-          let b : 65533 < length (requestPacket group sequence command m) = omega arith in
-          simp (lt-ltb 65533 _ b, pick-yes)
+      | yes a ↦ sym (put-over (requestPacket group sequence command m) d (omega arith))
       | no a ↦ elim (decLt (length d) total) [
-        | yes b ↦
-            let k : length (requestPacket group sequence command m) ≤ 65533 = omega arith in
-            let l : length d < length (requestPacket group sequence command m) = omega arith in
-            simp (le-ltb 65533 _ k, lt-ltb (length d) _ l, pick-yes, pick-no)
+        | yes b ↦ sym (put-long (requestPacket group sequence command m) d (omega arith) (omega arith))
         | no b ↦
             let k : total ≤ 65533 = omega arith in
             let l : total ≤ length d = omega arith in
             absurd (false≢true (sym may ∙ simp (le-leb total 65533 k, le-leb total (length d) l, both-yes)))
       ]
     ]
+
+-- a packet that a writer says it wrote is one that may be sent, and stands at the buffer's start
+pub sent-whole : (p out : List ℕ) (n : ℕ) → put p out .says ≡ packet n → (length p ≤ 65533) × (take n (put p out .buffer) ≡ p)
+sent-whole p out n e =
+    elim (decLt 65533 (length p)) [
+      | yes a ↦ absurd (apart n (ap (λ (o : Outcome). o .says) (sym (put-over p out a)) ∙ e))
+      | no a ↦ elim (decLt (length out) (length p)) [
+        | yes b ↦ absurd (apart n (ap (λ (o : Outcome). o .says) (sym (put-long p out (omega arith) b)) ∙ e))
+        | no b ↦ (omega arith, there (put-whole p out (omega arith) (omega arith)))
+      ]
+    ]
+  where
+    apart : (n : ℕ) → refused 12 ≡ packet n → ⊥
+    apart n e = let z : _≡_ {A = ℕ} 0 1 = cc in omega arith
+
+    same : (k n : ℕ) → packet k ≡ packet n → k ≡ n
+    same k n e = cc
+
+    there : put p out ≡ record { says = packet (length p); buffer = pasted out 0 p } → take n (put p out .buffer) ≡ p
+    there is =
+        ap (λ (o : Outcome). take n (o .buffer)) is
+        ∙ ap (λ (l : List ℕ). take n l) (pasted-start out p)
+        ∙ take-at p (drop (length p) out) n (same (length p) n (ap (λ (o : Outcome). o .says) (sym is) ∙ e))
 
 -- no head is longer than nine bytes
 pub head-most : (m n : ℕ) → length (headOf m n) ≤ 9
@@ -100,11 +133,12 @@ head-most m n =
 head-small : (m n : ℕ) → 23 < n → n < 256 → length (headOf m n) ≡ 2
 head-small m n h k = head-size m n ∙ ap suc (form-one n (omega arith) k .1)
 
--- each map in the parts that its writer writes
+-- an echo's map in the parts that its writer writes
 pub echo-parts : (text : List ℕ) → echoMap text ≡ (mapOf 1 ++ textOf nameD) ++ textOf text
 unfolding echoMap
 echo-parts text = sym (append-assoc (mapOf 1) (textOf nameD) (textOf text))
 
+-- so the map of an upload past offset 0
 pub later-parts : (x : List ℕ) (off : ℕ) → laterMap x off ≡ (mapOf 2 ++ (textOf nameData ++ bytesOf x)) ++ (textOf nameOff ++ unsigned off)
 unfolding laterMap
 later-parts x off =
@@ -115,35 +149,42 @@ later-parts x off =
 pairs-flat : (x : List ℕ) (size : ℕ) (post : List ℕ) → textOf nameData ++ (bytesOf x ++ (textOf nameLen ++ (unsigned size ++ (textOf nameOff ++ (unsigned 0 ++ post))))) ≡ firstPairs x size ++ post
 pairs-flat x size post = simp append-assoc
 
+-- the same pairs at the end of the map
 pairs-last : (x : List ℕ) (size : ℕ) → textOf nameData ++ (bytesOf x ++ (textOf nameLen ++ (unsigned size ++ (textOf nameOff ++ unsigned 0)))) ≡ firstPairs x size
 pairs-last x size = simp append-assoc
 
+-- the map at offset 0 without a tag, in the parts that its writer writes
 pub first-untagged : (x : List ℕ) (size : ℕ) (tag : List ℕ) → length tag ≡ 0 → firstMap x size tag ≡ mapOf 3 ++ firstPairs x size
 unfolding firstMap
 first-untagged x size tag e = rw (eq-eqb (length tag) 0 e, pick-yes) (ap (λ (l : List ℕ). mapOf 3 ++ l) (pairs-last x size))
 
+-- so the one with a tag
 pub first-tagged : (x : List ℕ) (size : ℕ) (tag : List ℕ) → (length tag ≡ 0 → ⊥) → firstMap x size tag ≡ (mapOf 4 ++ firstPairs x size) ++ (textOf nameSha ++ bytesOf tag)
 unfolding firstMap
 first-tagged x size tag e =
     rw (ne-eqb (length tag) 0 e, pick-no)
     (ap (λ (l : List ℕ). mapOf 4 ++ l) (pairs-flat x size (textOf nameSha ++ bytesOf tag)) ∙ sym (append-assoc (mapOf 4) (firstPairs x size) (textOf nameSha ++ bytesOf tag)))
 
--- how long each map is
+-- how long an echo's map is
 pub echo-length : (text : List ℕ) → length (echoMap text) ≡ 3 + length (headOf 0 (length text)) + length text
 unfolding echoMap
 echo-length text = simp length-append (omega (arith, head-tiny 5 1 (lit< tt), head-tiny 3 1 (lit< tt), head-length 3 (length text)))
 
+-- how long the map of an upload past offset 0 is
 pub later-length : (x : List ℕ) (off : ℕ) → length (laterMap x off) ≡ 10 + length (headOf 0 (length x)) + length x + length (headOf 0 off)
 unfolding laterMap
 later-length x off = simp length-append (omega (arith, head-tiny 5 2 (lit< tt), head-tiny 3 4 (lit< tt), head-tiny 3 3 (lit< tt), head-length 2 (length x)))
 
+-- how long the pairs are that every upload at offset 0 has
 pairs-length : (x : List ℕ) (size : ℕ) → length (firstPairs x size) ≡ 14 + length (headOf 0 (length x)) + length x + length (headOf 0 size)
 pairs-length x size = simp length-append (omega (arith, head-tiny 3 4 (lit< tt), head-tiny 3 3 (lit< tt), head-tiny 0 0 (lit< tt), head-length 2 (length x)))
 
+-- how long the map at offset 0 is without a tag
 pub first-length-untagged : (x : List ℕ) (size : ℕ) (tag : List ℕ) → length tag ≡ 0 → length (firstMap x size tag) ≡ 15 + length (headOf 0 (length x)) + length x + length (headOf 0 size)
 first-length-untagged x size tag e =
     ap length (first-untagged x size tag e) ∙ length-append (mapOf 3) (firstPairs x size) ∙ omega (arith, head-tiny 5 3 (lit< tt), pairs-length x size)
 
+-- how long it is with a tag
 pub first-length-tagged : (x : List ℕ) (size : ℕ) (tag : List ℕ) → length tag ≡ 32 → length (firstMap x size tag) ≡ 53 + length (headOf 0 (length x)) + length x + length (headOf 0 size)
 first-length-tagged x size tag e =
     let apart : length tag ≡ 0 → ⊥ = λ z. omega arith in

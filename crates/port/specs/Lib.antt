@@ -1,2 +1,3 @@
 pub mod Records
 pub mod Calls
+pub mod Small

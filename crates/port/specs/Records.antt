@@ -22,21 +22,26 @@ unfoldable pub numberOfFlag : Bool → ℕ
 numberOfFlag true = 1
 numberOfFlag false = 0
 
--- the reader's record { open, total, come, first }; a first byte that is no byte makes it impossible
-unfoldable pub readerOf : List ℕ → Reader
-readerOf r =
-    pick (eqb (getD r 0 0) 0) Idle
-    (pick (ltb 255 (getD r 3 0)) (Open 0 0 0)
-    (Open (getD r 1 0) (getD r 2 0) (getD r 3 0)))
+-- the reader's record by its numbers; a first byte that is no byte makes it impossible
+unfoldable pub readerFrom : ℕ → ℕ → ℕ → ℕ → Reader
+readerFrom open? total come first = pick (eqb open? 0) Idle (pick (ltb 255 first) (Open 0 0 0) (Open total come first))
+
+-- the reader's record { open, total, come, first }
+abbrev pub readerOf : List ℕ → Reader
+readerOf r = readerFrom (getD r 0 0) (getD r 1 0) (getD r 2 0) (getD r 3 0)
 
 -- the numbers of a reader's record; idle is all 0
 unfoldable pub readerNumbers : Reader → List ℕ
 readerNumbers Idle = 0 ∷ 0 ∷ 0 ∷ 0 ∷ []
 readerNumbers (Open total come first) = 1 ∷ total ∷ come ∷ first ∷ []
 
+-- the session record by its numbers and its tag
+abbrev pub sessionFrom : ℕ → ℕ → ℕ → ℕ → List ℕ → Session
+sessionFrom running length place tagged tag = record { running = flagOf running; length = length; place = place; tagged = flagOf tagged; tag = tag }
+
 -- the session record { open, length, place, tagged }, and its tag
-unfoldable pub sessionOf : List ℕ → List ℕ → Session
-sessionOf s tag = record { running = flagOf (getD s 0 0); length = getD s 1 0; place = getD s 2 0; tagged = flagOf (getD s 3 0); tag = tag }
+abbrev pub sessionOf : List ℕ → List ℕ → Session
+sessionOf s tag = sessionFrom (getD s 0 0) (getD s 1 0) (getD s 2 0) (getD s 3 0) tag
 
 -- the numbers of a session record
 unfoldable pub sessionNumbers : Session → List ℕ

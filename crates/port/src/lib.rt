@@ -1,2 +1,289 @@
 // The C interface: both ends of the port as functions on numbers, byte slices and small arrays of numbers. include/belagunthi.h declares
 // them, with each promise beside its call.
+use host::Written;
+use reader::Answer;
+use reader::Reader;
+use sender::Sent;
+use slot::Configured;
+use slot::Session;
+use slot::Slot;
+ghost use mathlib.Core.Path.{_≡_};
+ghost use mathlib.Core.Bool.{Bool};
+ghost use mathlib.Core.List.{List, [], _∷_};
+ghost use Prim.Native.Nat.{_<_, _≤_, ℕ};
+ghost use Rattle.port.specs.Records.{readerNumbers, sessionOf, sessionNumbers, flagOf, numberOfFlag, readerFrom, sessionFrom};
+ghost use Rattle.port.specs.Calls.{TookLine, tookLine, keepsRecord, HandledC, handledC, wroteBy, wroteC, sentFrame, configuredC};
+ghost use Rattle.port.specs.Small.{Storable, Held32};
+ghost use Rattle.host.specs.Write.{told, packet, writeEcho, writeReset, writeErase, writeUpload, nextSequence};
+
+// The reader's record out of its four numbers.
+fn reader_from(open: u32, total: u32, come: u32, first: u32) -> Reader
+    ensures { λ r. ⌜ r ≡ readerFrom «open» total come first ⌝ }
+{
+    if open == 0 {
+        return Reader::Idle;
+    }
+    if 255 < first {
+        return Reader::Open {
+            total: 0,
+            come: 0,
+            first: 0,
+        };
+    }
+    Reader::Open {
+        total: total as usize,
+        come: come as usize,
+        first: first as u8,
+    }
+}
+
+// The reader's record goes to its four numbers.
+fn store_reader(record: &mut [u32; 4], reader: Reader)
+    requires { ⌜ Storable reader ⌝ }
+    ensures { λ _. ⌜ now («record» .exit) ≡ readerNumbers reader ⌝ }
+{
+    match reader {
+        Reader::Idle => {
+            *record = [0, 0, 0, 0];
+        }
+        Reader::Open { total, come, first } => {
+            *record = [1, total as u32, come as u32, first as u32];
+        }
+    }
+}
+
+// Whether a refusal leaves the reader's record as it was lent.
+fn keeps_record(n: u32) -> bool
+    ensures { λ r. ⌜ r ≡ keepsRecord n ⌝ }
+{
+    if n == 2 {
+        return true;
+    }
+    if n == 3 {
+        return true;
+    }
+    n == 5
+}
+
+// Takes one line: see include/belagunthi.h.
+#[no_mangle]
+pub extern "C" fn bg_take_line(
+    record: &mut [u32; 4],
+    line: &[u8],
+    packet: &mut [u8],
+    body: &mut u32,
+) -> u32
+    ensures { λ r. ⌜ record { result = r; record-after = now («record» .exit); packet = now (packet .exit); body = now (body .exit) } ≡ tookLine (now («record» .entry)) (now (line .entry)) (now (packet .entry)) (now (body .entry)) ⌝ }
+{
+    let before = reader_from(record[0], record[1], record[2], record[3]);
+    let taken = reader::take_line(before, line, packet);
+    let answer = taken.answer;
+    let after = taken.reader;
+    match answer {
+        Answer::More => {
+            store_reader(record, after);
+            *body = 0;
+            return 0;
+        }
+        Answer::Packet(n) => {
+            store_reader(record, after);
+            *body = n as u32;
+            return 0;
+        }
+        Answer::Refused(why) => {
+            let n = refusal::number(why);
+            if keeps_record(n) {
+                return n;
+            }
+            store_reader(record, after);
+            return n;
+        }
+    }
+}
+
+// A number as a flag.
+fn flag_of(n: u32) -> bool
+    ensures { λ r. ⌜ r ≡ flagOf n ⌝ }
+{
+    n != 0
+}
+
+// A flag as a number.
+fn number_of_flag(b: bool) -> u32
+    ensures { λ r. ⌜ r ≡ numberOfFlag b ⌝ }
+{
+    if b {
+        return 1;
+    }
+    0
+}
+
+// The session record out of its four numbers and its tag.
+fn session_from(running: u32, length: u32, place: u32, tagged: u32, tag: [u8; 32]) -> Session
+    ensures { λ r. ⌜ (r ≡ sessionFrom running length place tagged tag) × Held32 r ⌝ }
+{
+    let is_running = flag_of(running);
+    let is_tagged = flag_of(tagged);
+    Session {
+        running: is_running,
+        length: length as usize,
+        place: place as usize,
+        tagged: is_tagged,
+        tag,
+    }
+}
+
+// The session record goes to its four numbers and its tag.
+fn store_session(record: &mut [u32; 4], tag: &mut [u8; 32], session: Session)
+    requires { ⌜ Held32 session ⌝ }
+    ensures { λ _. ⌜ (now («record» .exit) ≡ sessionNumbers session) × (now (tag .exit) ≡ session .tag) ⌝ }
+{
+    let running = number_of_flag(session.running);
+    let tagged = number_of_flag(session.tagged);
+    *record = [running, session.length as u32, session.place as u32, tagged];
+    let bytes = session.tag;
+    *tag = bytes;
+}
+
+// Takes one request packet: see include/belagunthi.h.
+#[no_mangle]
+pub extern "C" fn bg_handle(
+    memory: &mut [u8],
+    start: usize,
+    size: usize,
+    record: &mut [u32; 4],
+    tag: &mut [u8; 32],
+    packet: &[u8],
+    reply: &mut [u8],
+    answer: &mut [u32; 2],
+) -> u32
+    ensures { λ r. ⌜ record { result = r; memory = now (memory .exit); session = now («record» .exit); tag = now (tag .exit); reply = now (reply .exit); answer = now (answer .exit) } ≡ handledC (now (memory .entry)) start size (now («record» .entry)) (now (tag .entry)) (now (packet .entry)) (now (reply .entry)) (now (answer .entry)) ⌝ }
+{
+    let before = session_from(record[0], record[1], record[2], record[3], *tag);
+    let slot = Slot { start, size };
+    let handled = controller::handle_packet(slot, before, memory, packet, reply);
+    let said = handled.answer;
+    let after = handled.session;
+    match said {
+        controller::Answer::Replied(n) => {
+            store_session(record, tag, after);
+            *answer = [n as u32, 0];
+            return 0;
+        }
+        controller::Answer::ResetAsked(n) => {
+            store_session(record, tag, after);
+            *answer = [n as u32, 1];
+            return 0;
+        }
+        controller::Answer::Refused(why) => {
+            return refusal::number(why);
+        }
+    }
+}
+
+// The sequence number after this one.
+#[no_mangle]
+pub extern "C" fn bg_next_sequence(sequence: u8) -> u8
+    ensures { λ r. ⌜ r ≡ nextSequence sequence ⌝ }
+{
+    host::next_sequence(sequence)
+}
+
+// What a writer said, as a result: the packet's length is stored.
+fn told_c(w: Written, size: &mut u32) -> u32
+    requires { ⌜ ((n : ℕ) → told w ≡ packet n → n ≤ 65533) ⌝ }
+    ensures { λ r. ⌜ ((out : List ℕ) → record { result = r; out = out; size = now (size .exit) } ≡ wroteBy (now (size .entry)) out (told w)) ⌝ }
+{
+    match w {
+        Written::Packet(n) => {
+            *size = n as u32;
+            return 0;
+        }
+        Written::Refused(refusal) => {
+            return refusal::number(refusal);
+        }
+    }
+}
+
+// Writes an echo request to the start of out.
+#[no_mangle]
+pub extern "C" fn bg_write_echo(sequence: u8, text: &[u8], out: &mut [u8], size: &mut u32) -> u32
+    ensures { λ r. ⌜ record { result = r; out = now (out .exit); size = now (size .exit) } ≡ wroteC (now (size .entry)) (writeEcho sequence (now (text .entry)) (now (out .entry))) ⌝ }
+{
+    let w = host::write_echo(sequence, text, out);
+    told_c(w, size)
+}
+
+// Writes a reset request to the start of out.
+#[no_mangle]
+pub extern "C" fn bg_write_reset(sequence: u8, out: &mut [u8], size: &mut u32) -> u32
+    ensures { λ r. ⌜ record { result = r; out = now (out .exit); size = now (size .exit) } ≡ wroteC (now (size .entry)) (writeReset sequence (now (out .entry))) ⌝ }
+{
+    let w = host::write_reset(sequence, out);
+    told_c(w, size)
+}
+
+// Writes an erase request to the start of out.
+#[no_mangle]
+pub extern "C" fn bg_write_erase(sequence: u8, out: &mut [u8], size: &mut u32) -> u32
+    ensures { λ r. ⌜ record { result = r; out = now (out .exit); size = now (size .exit) } ≡ wroteC (now (size .entry)) (writeErase sequence (now (out .entry))) ⌝ }
+{
+    let w = host::write_erase(sequence, out);
+    told_c(w, size)
+}
+
+// Writes an upload request to the start of out.
+#[no_mangle]
+pub extern "C" fn bg_write_upload(
+    sequence: u8,
+    data: &[u8],
+    off: u64,
+    length: u64,
+    tag: &[u8],
+    out: &mut [u8],
+    size: &mut u32,
+) -> u32
+    ensures { λ r. ⌜ record { result = r; out = now (out .exit); size = now (size .exit) } ≡ wroteC (now (size .entry)) (writeUpload sequence (now («data» .entry)) off length (now (tag .entry)) (now (out .entry))) ⌝ }
+{
+    let w = host::write_upload(sequence, data, off, length, tag, out);
+    told_c(w, size)
+}
+
+// Writes frame number k of a body, as a line, to the start of out.
+#[no_mangle]
+pub extern "C" fn bg_send_frame(body: &[u8], k: usize, out: &mut [u8], sent: &mut [u32; 2]) -> u32
+    ensures { λ r. ⌜ record { result = r; out = now (out .exit); sent = now (sent .exit) } ≡ sentFrame (now (body .entry)) k (now (out .entry)) (now (sent .entry)) ⌝ }
+{
+    match sender::send_frame(body, k, out) {
+        Sent::Frame { length, count } => {
+            *sent = [length as u32, count as u32];
+            return 0;
+        }
+        Sent::Refused(refusal) => {
+            return refusal::number(refusal);
+        }
+    }
+}
+
+// Says whether a slot is possible in a memory of this many bytes; if so, the session record is made a closed one.
+#[no_mangle]
+pub extern "C" fn bg_configure(
+    start: usize,
+    size: usize,
+    room: usize,
+    session: &mut [u32; 4],
+    tag: &mut [u8; 32],
+) -> u32
+    ensures { λ r. ⌜ record { result = r; session = now (session .exit); tag = now (tag .exit) } ≡ configuredC start size room (now (session .entry)) (now (tag .entry)) ⌝ }
+{
+    match slot::configure(start, size, room) {
+        Configured::Ready(_) => {
+            *session = [0u32; 4];
+            *tag = [0u8; 32];
+            return 0;
+        }
+        Configured::Refused(refusal) => {
+            return refusal::number(refusal);
+        }
+    }
+}

@@ -1,0 +1,4 @@
+pub mod Keeps
+pub mod Lines
+pub mod Sessions
+pub mod Small

@@ -1,0 +1,589 @@
+/*
+ * A rack controller on a pseudo-terminal: collects lines, gives them to the reader, its packets to the request
+ * call on the controller's memory, and sends the replies' frames. Faults of the line can be injected. All protocol
+ * work is done by the calls of belagunthi.h.
+ */
+#define _GNU_SOURCE
+#include <errno.h>
+#include <fcntl.h>
+#include <getopt.h>
+#include <poll.h>
+#include <signal.h>
+#include <stdarg.h>
+#include <stdio.h>
+#include <stdlib.h>
+#include <string.h>
+#include <sys/ioctl.h>
+#include <sys/stat.h>
+#include <unistd.h>
+
+#include "belagunthi.h"
+#include "line.h"
+
+/* The exit codes. */
+enum { END_WELL = 0, END_USAGE = 2, END_FILE = 3, END_PORT = 4, END_REFUSED = 7 };
+
+/* How long a byte that goes may wait for room on the line, a last reply to be fetched, and one wait for bytes
+ * lasts. */
+enum { SEND_LIMIT_MS = 500, LINGER_MS = 500, WAIT_MS = 1000 };
+
+/* What the command line says. */
+struct options {
+    uint64_t memory_size;
+    uint64_t slot_start;
+    uint64_t slot_size;
+    uint64_t packet_buffer;
+    uint64_t idle_ms;
+    uint64_t seed;
+    uint64_t drop;
+    uint64_t damage;
+    uint64_t chatter;
+    uint64_t outage_every;
+    uint64_t outage_ms;
+    const char *memory_file;
+    const char *port_file;
+    bool once;
+    bool quiet;
+};
+
+/* The controller: its port, its memory, the records of its calls, and counts of what happened. */
+struct controller {
+    struct options options;
+    int master;
+    int slave;
+    int file;
+    uint8_t *memory;
+    uint8_t *saved;
+    uint8_t *packet;
+    uint8_t *reply;
+    size_t reply_room;
+    struct collector collector;
+    uint32_t reader[BG_READER];
+    uint32_t session[BG_SESSION];
+    uint8_t tag[BG_TAG];
+    uint64_t random;
+    uint64_t deaf_until;
+    unsigned long lines;
+    unsigned long packets;
+    unsigned long refused;
+    unsigned long dropped;
+    unsigned long damaged;
+    unsigned long chatted;
+    unsigned long outages;
+    bool ended;
+};
+
+/* Set by a signal that asks for the end. */
+static volatile sig_atomic_t stop_asked;
+
+/* Notes that a signal asked for the end. */
+static void ask_stop(int number)
+{
+    (void)number;
+    stop_asked = 1;
+}
+
+/* Ends the program with one line on standard error. */
+static void __attribute__((format(printf, 2, 3), noreturn)) fail(int code, const char *format, ...)
+{
+    va_list words;
+
+    va_start(words, format);
+    fprintf(stderr, "controller: ");
+    vfprintf(stderr, format, words);
+    fprintf(stderr, "\n");
+    va_end(words);
+    exit(code);
+}
+
+/* Counts a refusal and logs it by number and words. */
+static void log_refusal(struct controller *c, const char *what, uint32_t refusal, size_t len)
+{
+    c->refused++;
+    if (!c->options.quiet) {
+        fprintf(stderr, "controller: refused %u (%s): a %s of %zu bytes\n", refusal, refusal_words(refusal), what,
+                len);
+    }
+}
+
+/* The next number of the fixed row that the seed begins (splitmix64). */
+static uint64_t next_random(struct controller *c)
+{
+    uint64_t z;
+
+    c->random += 0x9e3779b97f4a7c15u;
+    z = c->random;
+    z = (z ^ z >> 30) * 0xbf58476d1ce4e5b9u;
+    z = (z ^ z >> 27) * 0x94d049bb133111ebu;
+    return z ^ z >> 31;
+}
+
+/* Says whether a fault of so many in a thousand strikes now. */
+static bool strikes(struct controller *c, uint64_t permille)
+{
+    return permille > 0 && next_random(c) % 1000 < permille;
+}
+
+/* Changes one byte of a line to another where the fault of damage strikes. */
+static void damage(struct controller *c, uint8_t *line, size_t len)
+{
+    if (strikes(c, c->options.damage)) {
+        line[next_random(c) % len] ^= (uint8_t)(1 + next_random(c) % 255);
+        c->damaged++;
+    }
+}
+
+/* Writes bytes at a place of the memory's file. */
+static void write_file(struct controller *c, const uint8_t *bytes, size_t len, size_t place)
+{
+    while (len > 0) {
+        ssize_t done = pwrite(c->file, bytes, len, (off_t)place);
+        if (done < 0 && errno == EINTR) {
+            continue;
+        }
+        if (done <= 0) {
+            fail(END_FILE, "cannot write the memory to %s: %s", c->options.memory_file, strerror(errno));
+        }
+        bytes += done;
+        place += (size_t)done;
+        len -= (size_t)done;
+    }
+}
+
+/* Writes what changed in the memory since the last time to its file, if it has one. */
+static void save_memory(struct controller *c)
+{
+    size_t from = 0;
+    size_t to = c->options.memory_size;
+
+    if (c->file < 0 || memcmp(c->memory, c->saved, to) == 0) {
+        return;
+    }
+    while (c->memory[from] == c->saved[from]) {
+        from++;
+    }
+    while (c->memory[to - 1] == c->saved[to - 1]) {
+        to--;
+    }
+    write_file(c, c->memory + from, to - from, from);
+    memcpy(c->saved + from, c->memory + from, to - from);
+}
+
+/* Loads the memory from its file, or makes both all 255; a file of another size is not touched. */
+static void load_memory(struct controller *c)
+{
+    size_t size = c->options.memory_size;
+    size_t have = 0;
+    struct stat state;
+
+    memset(c->memory, 255, size);
+    memset(c->saved, 255, size);
+    c->file = -1;
+    if (c->options.memory_file == NULL) {
+        return;
+    }
+    c->file = open(c->options.memory_file, O_RDWR | O_CREAT | O_CLOEXEC | O_NONBLOCK, 0666);
+    if (c->file < 0 || fstat(c->file, &state) != 0) {
+        fail(END_FILE, "cannot open the memory file %s: %s", c->options.memory_file, strerror(errno));
+    }
+    if (!S_ISREG(state.st_mode)) {
+        fail(END_FILE, "the memory file %s is not a plain file", c->options.memory_file);
+    }
+    if (state.st_size == 0) {
+        write_file(c, c->memory, size, 0);
+        return;
+    }
+    if ((uint64_t)state.st_size != size) {
+        fail(END_FILE, "the memory file %s has %lld bytes, not %zu", c->options.memory_file,
+             (long long)state.st_size, size);
+    }
+    while (have < size) {
+        ssize_t done = pread(c->file, c->memory + have, size - have, (off_t)have);
+        if (done < 0 && errno == EINTR) {
+            continue;
+        }
+        if (done <= 0) {
+            fail(END_FILE, "cannot read the memory file %s", c->options.memory_file);
+        }
+        have += (size_t)done;
+    }
+    memcpy(c->saved, c->memory, size);
+}
+
+/* Sends bytes; what finds no room in time is lost, as on a line that no one reads. */
+static void send_bytes(struct controller *c, const uint8_t *bytes, size_t len)
+{
+    if (write_all(c->master, bytes, len, SEND_LIMIT_MS) == WRITE_FAILED) {
+        fail(END_PORT, "cannot write to the port: %s", strerror(errno));
+    }
+}
+
+/* Prints a console line on the line where the fault of chatter strikes; some are over 127 bytes, some are empty.
+ */
+static void chatter(struct controller *c)
+{
+    char text[256];
+    int len;
+
+    if (!strikes(c, c->options.chatter)) {
+        return;
+    }
+    uint64_t number = next_random(c);
+    switch (number % 4) {
+    case 0:
+        len = snprintf(text, sizeof text, "[%05lu] relay %u closed\r\n", c->lines % 100000,
+                       (unsigned)(number >> 8) % 48);
+        break;
+    case 1:
+        len = snprintf(text, sizeof text, "rack> \n");
+        break;
+    case 2:
+        len = snprintf(text, sizeof text, "\n");
+        break;
+    default:
+        len = snprintf(text, sizeof text, "[%05lu] temperatures:%0150u\n", c->lines % 100000,
+                       (unsigned)(number >> 8));
+        break;
+    }
+    c->chatted++;
+    send_bytes(c, (const uint8_t *)text, (size_t)len);
+}
+
+/* Sends a reply as frames, with chatter before and between them and damage on them where these faults strike. */
+static void send_reply(struct controller *c, size_t len)
+{
+    uint32_t sent[2] = {0, 1};
+
+    for (size_t k = 0; k < sent[1]; k++) {
+        uint8_t line[BG_LINE];
+        uint32_t refusal = bg_send_frame(c->reply, len, k, line, sizeof line, sent);
+        if (refusal != 0) {
+            log_refusal(c, "reply", refusal, len);
+            return;
+        }
+        chatter(c);
+        damage(c, line, sent[0]);
+        send_bytes(c, line, sent[0]);
+    }
+}
+
+/* Waits until the last reply was fetched from the port, or for the limit: the port's end would throw it away. */
+static void linger(struct controller *c)
+{
+    uint64_t until = now_ms() + LINGER_MS;
+    int unread = 1;
+
+    while (unread > 0 && now_ms() < until) {
+        poll(NULL, 0, 5);
+        if (ioctl(c->slave, FIONREAD, &unread) != 0) {
+            return;
+        }
+    }
+}
+
+/* Handles one packet: memory, session, reply, and an outage where one is due, which swallows the reply. */
+static void take_packet(struct controller *c, size_t len)
+{
+    const struct options *o = &c->options;
+    uint32_t answer[2] = {0, 0};
+    uint32_t refusal = bg_handle(c->memory, o->memory_size, o->slot_start, o->slot_size, c->session, c->tag,
+                                 c->packet, len, c->reply, c->reply_room, answer);
+
+    if (refusal != 0) {
+        log_refusal(c, "packet", refusal, len);
+        return;
+    }
+    c->packets++;
+    save_memory(c);
+    if (o->outage_every > 0 && c->packets % o->outage_every == 0) {
+        c->outages++;
+        c->deaf_until = now_ms() + o->outage_ms;
+    } else {
+        send_reply(c, answer[0]);
+    }
+    if (answer[1] != 0 && o->once) {
+        linger(c);
+        c->ended = true;
+    }
+}
+
+/* Takes one line that came, unless a fault loses it. */
+static void take_line(struct controller *c, size_t len)
+{
+    uint32_t body = 0;
+
+    c->lines++;
+    if (strikes(c, c->options.drop)) {
+        c->dropped++;
+        return;
+    }
+    damage(c, c->collector.line, len);
+    uint32_t refusal = bg_take_line(c->reader, c->collector.line, len, c->packet, c->options.packet_buffer, &body);
+    if (refusal != 0) {
+        log_refusal(c, "line", refusal, len);
+    } else if (body > 0) {
+        take_packet(c, body);
+    }
+}
+
+/* Serves until the idle time is over, a signal asks for the end, or a reset does under --once. */
+static void serve(struct controller *c)
+{
+    uint64_t last = now_ms();
+
+    while (!c->ended && !stop_asked) {
+        uint8_t bytes[512];
+        struct pollfd wait = {.fd = c->master, .events = POLLIN};
+        uint64_t idle = now_ms() - last;
+        if (c->options.idle_ms > 0 && idle >= c->options.idle_ms) {
+            return;
+        }
+        uint64_t left = c->options.idle_ms > 0 ? c->options.idle_ms - idle : WAIT_MS;
+        int ready = poll(&wait, 1, left < WAIT_MS ? (int)left : WAIT_MS);
+        if (ready < 0 && errno != EINTR) {
+            fail(END_PORT, "cannot wait for the port: %s", strerror(errno));
+        }
+        if (ready <= 0) {
+            continue;
+        }
+        ssize_t come = read(c->master, bytes, sizeof bytes);
+        if (come < 0 && (errno == EAGAIN || errno == EINTR)) {
+            continue;
+        }
+        if (come <= 0) {
+            fail(END_PORT, "cannot read from the port: %s", come == 0 ? "it was closed" : strerror(errno));
+        }
+        last = now_ms();
+        for (ssize_t i = 0; i < come && !c->ended; i++) {
+            if (c->deaf_until > 0 && now_ms() < c->deaf_until) {
+                continue;
+            }
+            c->deaf_until = 0;
+            size_t len = collect(&c->collector, bytes[i]);
+            if (len > 0) {
+                take_line(c, len);
+            }
+        }
+    }
+}
+
+/* Opens the pseudo-terminal, raw, and keeps its far end open too, so that hosts may come and go. */
+static void open_port(struct controller *c)
+{
+    const char *path;
+
+    c->master = posix_openpt(O_RDWR | O_NOCTTY | O_CLOEXEC);
+    if (c->master < 0 || grantpt(c->master) != 0 || unlockpt(c->master) != 0) {
+        fail(END_PORT, "cannot open a pseudo-terminal: %s", strerror(errno));
+    }
+    path = ptsname(c->master);
+    c->slave = path == NULL ? -1 : open(path, O_RDWR | O_NOCTTY | O_CLOEXEC);
+    if (c->slave < 0 || make_raw(c->slave) != 0 || fcntl(c->master, F_SETFL, O_NONBLOCK) != 0) {
+        fail(END_PORT, "cannot set up the pseudo-terminal: %s", strerror(errno));
+    }
+    if (c->options.port_file == NULL) {
+        printf("%s\n", path);
+        fflush(stdout);
+        return;
+    }
+    char *draft;
+    if (asprintf(&draft, "%s.draft", c->options.port_file) < 0) {
+        fail(END_FILE, "no memory");
+    }
+    FILE *file = fopen(draft, "w");
+    if (file == NULL || fprintf(file, "%s\n", path) < 0 || fclose(file) != 0 ||
+        rename(draft, c->options.port_file) != 0) {
+        fail(END_FILE, "cannot write the port's path to %s: %s", c->options.port_file, strerror(errno));
+    }
+    free(draft);
+}
+
+/* Prints the help. */
+static void help(void)
+{
+    printf(
+        "Usage: controller [OPTION...]\n"
+        "A rack controller on a pseudo-terminal, whose path it prints on one line. It takes image uploads into a "
+        "slot of its memory.\n"
+        "\n"
+        "  --port-file F       write the path to F instead of standard output\n"
+        "  --memory-size N     bytes of memory (default 262144)\n"
+        "  --slot-start N      where the slot starts in it (default 65536)\n"
+        "  --slot-size N       bytes of the slot, at most 1048576 (default 131072)\n"
+        "  --memory FILE       load the memory from FILE if it exists, and write it back after each change and at "
+        "the end;\n"
+        "                      else the memory is RAM, at first all 255\n"
+        "  --packet-buffer N   longest packet taken, 8 to 65533 bytes (default 1024)\n"
+        "  --idle MS           end after so long without a byte (default 10000; 0: never)\n"
+        "  --once              end after a reset was asked\n"
+        "  --quiet             no log of refusals on standard error\n"
+        "  --help              this text\n"
+        "\n"
+        "Injected faults:\n"
+        "  --seed N            begins their fixed row of chances (default 1)\n"
+        "  --drop PERMILLE     a line that came is lost\n"
+        "  --damage PERMILLE   a byte of a line that came or goes is changed\n"
+        "  --chatter PERMILLE  a console line is printed before a frame that goes\n"
+        "  --outage EVERY,MS   after every so many packets deaf and dumb for MS milliseconds; the packet's reply "
+        "is lost\n"
+        "\n"
+        "Exit code: 0 ended as asked; 2 bad usage; 3 file trouble; 4 port trouble; 7 the slot is impossible.\n");
+}
+
+/* Reads a number from 0 to most that an option was given, or ends for bad usage. */
+static uint64_t number_of(const char *option, const char *text, uint64_t most)
+{
+    uint64_t number;
+
+    if (!read_number(text, most, &number)) {
+        fail(END_USAGE, "--%s wants a number from 0 to %llu, not '%s'", option, (unsigned long long)most, text);
+    }
+    return number;
+}
+
+/* Reads the two numbers of an outage, or ends for bad usage. */
+static void read_outage(struct options *o, const char *text)
+{
+    const char *comma = strchr(text, ',');
+    char every[24];
+
+    if (comma == NULL || (size_t)(comma - text) >= sizeof every) {
+        fail(END_USAGE, "--outage wants EVERY,MS, not '%s'", text);
+    }
+    memcpy(every, text, (size_t)(comma - text));
+    every[comma - text] = '\0';
+    o->outage_every = number_of("outage", every, 1000000000);
+    o->outage_ms = number_of("outage", comma + 1, 600000);
+}
+
+/* Reads the command line. */
+static void read_options(struct options *o, int argc, char **argv)
+{
+    static const struct option known[] = {
+        {"memory-size", required_argument, NULL, 'm'},
+        {"slot-start", required_argument, NULL, 's'},
+        {"slot-size", required_argument, NULL, 'S'},
+        {"memory", required_argument, NULL, 'f'},
+        {"packet-buffer", required_argument, NULL, 'p'},
+        {"idle", required_argument, NULL, 'i'},
+        {"seed", required_argument, NULL, 'r'},
+        {"drop", required_argument, NULL, 'd'},
+        {"damage", required_argument, NULL, 'D'},
+        {"chatter", required_argument, NULL, 'c'},
+        {"outage", required_argument, NULL, 'O'},
+        {"port-file", required_argument, NULL, 'P'},
+        {"once", no_argument, NULL, 'o'},
+        {"quiet", no_argument, NULL, 'q'},
+        {"help", no_argument, NULL, 'h'},
+        {NULL, 0, NULL, 0},
+    };
+    int which = 0;
+    int found;
+
+    *o = (struct options){.memory_size = 262144,
+                          .slot_start = 65536,
+                          .slot_size = 131072,
+                          .packet_buffer = 1024,
+                          .idle_ms = 10000,
+                          .seed = 1};
+    opterr = 0;
+    while ((found = getopt_long(argc, argv, "", known, &which)) != -1) {
+        const char *name = known[which].name;
+        switch (found) {
+        case 'm':
+            o->memory_size = number_of(name, optarg, 1u << 30);
+            break;
+        case 's':
+            o->slot_start = number_of(name, optarg, 1u << 30);
+            break;
+        case 'S':
+            o->slot_size = number_of(name, optarg, 1u << 30);
+            break;
+        case 'f':
+            o->memory_file = optarg;
+            break;
+        case 'p':
+            o->packet_buffer = number_of(name, optarg, 65533);
+            break;
+        case 'i':
+            o->idle_ms = number_of(name, optarg, 86400000);
+            break;
+        case 'r':
+            o->seed = number_of(name, optarg, UINT64_MAX);
+            break;
+        case 'd':
+            o->drop = number_of(name, optarg, 1000);
+            break;
+        case 'D':
+            o->damage = number_of(name, optarg, 1000);
+            break;
+        case 'c':
+            o->chatter = number_of(name, optarg, 1000);
+            break;
+        case 'O':
+            read_outage(o, optarg);
+            break;
+        case 'P':
+            o->port_file = optarg;
+            break;
+        case 'o':
+            o->once = true;
+            break;
+        case 'q':
+            o->quiet = true;
+            break;
+        case 'h':
+            help();
+            exit(END_WELL);
+        default:
+            fail(END_USAGE, "unknown or incomplete option '%s'; see --help", argv[optind - 1]);
+        }
+    }
+    if (optind < argc) {
+        fail(END_USAGE, "unknown word '%s'; see --help", argv[optind]);
+    }
+    if (o->packet_buffer < 8) {
+        fail(END_USAGE, "--packet-buffer must be at least 8");
+    }
+}
+
+/* Sets the controller up, serves, and says at the end what happened. */
+int main(int argc, char **argv)
+{
+    static struct controller c;
+    struct sigaction action = {.sa_handler = ask_stop};
+    uint32_t refusal;
+
+    read_options(&c.options, argc, argv);
+    c.random = c.options.seed;
+    c.reply_room = c.options.packet_buffer < BG_REPLY_ROOM ? BG_REPLY_ROOM : c.options.packet_buffer;
+    refusal = bg_configure(c.options.slot_start, c.options.slot_size, c.options.memory_size, c.session, c.tag);
+    if (refusal != 0) {
+        fail(END_REFUSED, "refused %u (%s)", refusal, refusal_words(refusal));
+    }
+    c.memory = malloc(c.options.memory_size);
+    c.saved = malloc(c.options.memory_size);
+    c.packet = malloc(c.options.packet_buffer);
+    c.reply = malloc(c.reply_room);
+    if (c.memory == NULL || c.saved == NULL || c.packet == NULL || c.reply == NULL) {
+        fail(END_FILE, "no memory");
+    }
+    sigaction(SIGTERM, &action, NULL);
+    sigaction(SIGINT, &action, NULL);
+    sigaction(SIGHUP, &action, NULL);
+    load_memory(&c);
+    open_port(&c);
+    serve(&c);
+    save_memory(&c);
+    if (!c.options.quiet) {
+        fprintf(stderr,
+                "controller: ended; %lu lines, %lu packets, %lu refusals; injected: %lu lines lost, %lu damaged, "
+                "%lu console lines, %lu outages\n",
+                c.lines, c.packets, c.refused, c.dropped, c.damaged, c.chatted, c.outages);
+    }
+    free(c.memory);
+    free(c.saved);
+    free(c.packet);
+    free(c.reply);
+    return END_WELL;
+}

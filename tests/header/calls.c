@@ -1,0 +1,204 @@
+/* Calls every function of belagunthi.h once or more through the archive, with small known cases; both C99 and
+ * C++11. */
+#include "belagunthi.h"
+#include "belagunthi.h"
+
+#include <stdio.h>
+#include <string.h>
+
+static unsigned checks = 0;
+static unsigned bad = 0;
+
+/* Counts a check, and says which one failed. */
+static void check(int held, const char *what)
+{
+    checks++;
+    if (!held) {
+        bad++;
+        printf("header: wrong: %s\n", what);
+    }
+}
+
+/* Says whether bytes are those wanted. */
+static int same(const void *bytes, const void *wanted, size_t len)
+{
+    return memcmp(bytes, wanted, len) == 0;
+}
+
+/* Sends a body of eight zero bytes, and refuses what cannot be sent. */
+static void check_sender(void)
+{
+    const uint8_t body[89] = {0};
+    uint8_t out[BG_LINE + 1];
+    uint32_t sent[2] = {7, 7};
+
+    memset(out, 0xEE, sizeof out);
+    check(bg_send_frame(body, 8, 0, out, BG_LINE - 1, sent) == 12, "a frame in 126 bytes is refused 12");
+    check(bg_send_frame(body, 7, 0, out, BG_LINE, sent) == 12, "a body of 7 bytes is refused 12");
+    check(bg_send_frame(NULL, 0, 0, out, BG_LINE, sent) == 12, "a body of 0 bytes is refused 12");
+    check(bg_send_frame(body, 8, 1, out, BG_LINE, sent) == 13, "frame 1 of 1 is refused 13");
+    check(sent[0] == 7 && sent[1] == 7 && out[0] == 0xEE, "a refused frame leaves all");
+    check(bg_send_frame(body, 8, 0, out, BG_LINE, sent) == 0, "eight zero bytes are sent");
+    check(sent[0] == 19 && sent[1] == 1, "eight zero bytes are one line of 19 bytes");
+    check(same(out, "\006\011AAoAAAAAAAAAAAAA\n\356", 20), "the line of eight zero bytes");
+    check(bg_send_frame(body, 88, 0, out, sizeof out, sent) == 0 && sent[0] == 127 && sent[1] == 1,
+          "88 bytes are one line");
+    check(bg_send_frame(body, 89, 0, out, BG_LINE, sent) == 0 && sent[0] == 127 && sent[1] == 2,
+          "89 bytes are two lines");
+    check(bg_send_frame(body, 89, 1, out, BG_LINE, sent) == 0 && sent[0] == 7 && sent[1] == 2,
+          "the second line of 89");
+    check(out[BG_LINE] == 0xEE, "the byte after the output stays");
+}
+
+/* Reads the line of eight zero bytes back, and what a reader refuses. */
+static void check_reader(void)
+{
+    const uint8_t zeros[8] = {0};
+    const uint8_t idle[16] = {0};
+    uint8_t line[20];
+    uint8_t packet[16];
+    uint32_t reader[BG_READER] = {0, 0, 0, 0};
+    uint32_t body = 99;
+
+    memcpy(line, "\006\011AAoAAAAAAAAAAAAA\n", 20);
+    memset(packet, 0xEE, sizeof packet);
+    check(bg_take_line(reader, NULL, 0, packet, sizeof packet, &body) == 3, "an empty line is refused 3");
+    check(bg_take_line(reader, line, 19, packet, 7, &body) == 7, "a buffer of 7 bytes is refused 7");
+    line[10] = '-';
+    check(bg_take_line(reader, line, 19, packet, sizeof packet, &body) == 4,
+          "text that is no Base64 is refused 4");
+    line[10] = 'B';
+    check(bg_take_line(reader, line, 19, packet, sizeof packet, &body) == 9, "a changed byte is refused 9");
+    line[10] = 'A';
+    check(body == 99 && packet[0] == 0xEE && same(reader, idle, 16), "a refused line leaves all");
+    check(bg_take_line(reader, line, 19, packet, sizeof packet, &body) == 0, "the line is taken");
+    check(body == 8 && same(packet, zeros, 8) && packet[8] == 0xEE && same(reader, idle, 16),
+          "the line gives the body");
+
+    check(bg_take_line(reader, (const uint8_t *)"\006\011AAoA\n", 7, packet, 16, &body) == 0,
+          "a begun packet is taken");
+    check(body == 0 && reader[0] != 0 && reader[1] == 10 && reader[2] == 1, "a begun packet is open");
+    check(bg_take_line(reader, (const uint8_t *)"console\n", 8, packet, 16, &body) == 3,
+          "a console line is refused 3");
+    check(reader[0] != 0 && reader[1] == 10 && reader[2] == 1, "a console line leaves the open packet");
+    check(bg_take_line(reader, (const uint8_t *)"\004\024AAAAAAAAAAAA\n", 15, packet, 16, &body) == 0 && body == 8,
+          "its partial frame completes it");
+    check(bg_take_line(reader, (const uint8_t *)"\004\024AAAA\n", 7, packet, 16, &body) == 5,
+          "no packet is open: 5");
+}
+
+/* Handles the packet of eight zero bytes, and a whole small upload written by the host's calls. */
+static void check_controller(void)
+{
+    const uint8_t zeros[8] = {0};
+    const uint8_t missing[13] = {1, 0, 0, 5, 0, 0, 0, 0, 0xA1, 0x62, 0x72, 0x63, 3};
+    const uint8_t data[3] = {1, 2, 3};
+    const uint8_t slot[8] = {255, 255, 1, 2, 3, 255, 255, 255};
+    uint8_t memory[8];
+    uint8_t packet[128];
+    uint8_t reply[64];
+    uint8_t tag[BG_TAG];
+    uint8_t image_tag[BG_TAG];
+    uint32_t session[BG_SESSION] = {9, 9, 9, 9};
+    uint32_t answer[2] = {7, 7};
+    uint32_t numbers[BG_REPLY];
+    uint32_t len = 0;
+
+    memset(memory, 255, sizeof memory);
+    memset(reply, 0xEE, sizeof reply);
+    memset(image_tag, 0x5A, sizeof image_tag);
+    memset(tag, 9, sizeof tag);
+    check(bg_configure(2, 7, 8, session, tag) == 1, "a slot that ends outside the memory is refused 1");
+    check(session[0] == 9 && tag[0] == 9, "a refused slot leaves all");
+    check(bg_configure(2, 6, 8, session, tag) == 0, "a slot inside the memory is taken");
+    check(session[0] == 0 && session[3] == 0 && tag[0] == 0 && tag[31] == 0, "it has a closed session");
+    check(bg_handle(memory, 8, 2, 7, session, tag, zeros, 8, reply, 64, answer) == 1,
+          "an impossible slot is refused 1");
+    check(bg_handle(memory, 8, 2, 6, session, tag, zeros, 8, reply, 31, answer) == 11,
+          "a reply in 31 bytes is refused 11");
+    check(bg_handle(memory, 8, 2, 6, session, tag, zeros, 7, reply, 64, answer) == 10,
+          "a packet of 7 bytes is refused 10");
+    check(answer[0] == 7 && answer[1] == 7 && reply[0] == 0xEE, "a refused packet leaves all");
+    check(bg_handle(memory, 8, 2, 6, session, tag, zeros, 8, reply, 64, answer) == 0,
+          "eight zero bytes are handled");
+    check(answer[0] == 13 && answer[1] == 0 && same(reply, missing, 13) && reply[13] == 0xEE,
+          "their reply is rc 3");
+    check(bg_read_reply(reply, 13, numbers) == 0 && numbers[0] == 1 && numbers[6] == 3,
+          "that reply is read as rc 3");
+
+    check(bg_write_upload(200, data, 3, 0, 3, image_tag, 32, packet, sizeof packet, &len) == 0,
+          "an upload is written");
+    check(bg_handle(memory, 8, 2, 6, session, tag, packet, len, reply, 64, answer) == 0, "the upload is handled");
+    check(bg_read_reply(reply, answer[0], numbers) == 0 && numbers[4] == 200, "its reply has its sequence number");
+    check(numbers[0] == 3 && numbers[3] == 1 && numbers[5] == 1 && numbers[6] == 0,
+          "its reply is of the upload, rc 0");
+    check(numbers[7] == 1 && numbers[8] == 3 && numbers[9] == 0, "its reply has the offset 3 and no text");
+    check(same(memory, slot, 8), "the slot holds the image, and the rest stays");
+    check(session[0] != 0 && session[1] == 3 && session[2] == 3 && session[3] != 0 && same(tag, image_tag, 32),
+          "the session is open, whole and tagged");
+}
+
+/* Writes each request, and what a writer refuses. */
+static void check_writers(void)
+{
+    const uint8_t at_512[23] = {2,    0,    0,    15,   0,    1,    9,    1,    0xA2, 0x64, 0x64, 0x61,
+                                0x74, 0x61, 0x41, 0x01, 0x63, 0x6F, 0x66, 0x66, 0x19, 0x02, 0x00};
+    const uint8_t echo[14] = {2, 0, 0, 6, 0, 0, 255, 0, 0xA1, 0x61, 'd', 0x62, 'h', 'i'};
+    const uint8_t reset[9] = {2, 0, 0, 1, 0, 0, 5, 5, 0xA0};
+    const uint8_t erase[9] = {2, 0, 0, 1, 0, 1, 6, 5, 0xA0};
+    const uint8_t one[1] = {1};
+    uint8_t out[64];
+    uint32_t len = 77;
+
+    memset(out, 0xEE, sizeof out);
+    check(bg_write_upload(9, one, 1, 512, 0, NULL, 0, out, 22, &len) == 12, "an output too short is refused 12");
+    check(bg_write_upload(9, NULL, 0, 512, 0, NULL, 0, out, 64, &len) == 12, "empty data is refused 12");
+    check(bg_write_upload(9, one, 1, 4294967296u, 0, NULL, 0, out, 64, &len) == 12,
+          "an offset too large is refused 12");
+    check(bg_write_upload(9, one, 1, 0, 0, NULL, 0, out, 64, &len) == 12, "a length of 0 is refused 12");
+    check(bg_write_upload(9, one, 1, 0, 1, one, 1, out, 64, &len) == 12, "a tag of one byte is refused 12");
+    check(len == 77 && out[0] == 0xEE, "a refused request leaves all");
+    check(bg_write_upload(9, one, 1, 512, 0, NULL, 0, out, 23, &len) == 0, "data 01 at 512 is written");
+    check(len == 23 && same(out, at_512, 23) && out[23] == 0xEE, "the packet of data 01 at 512");
+    check(bg_write_echo(255, (const uint8_t *)"hi", 2, out, 64, &len) == 0 && len == 14 && same(out, echo, 14),
+          "an echo");
+    check(bg_write_echo(255, (const uint8_t *)"hi", 2, out, 13, &len) == 12 && len == 14,
+          "an echo too long is refused 12");
+    check(bg_write_reset(5, out, 64, &len) == 0 && len == 9 && same(out, reset, 9), "a reset");
+    check(bg_write_reset(5, out, 8, &len) == 12, "a reset in 8 bytes is refused 12");
+    check(bg_write_erase(6, out, 64, &len) == 0 && len == 9 && same(out, erase, 9), "an erase");
+    check(bg_write_erase(6, out, 8, &len) == 12, "an erase in 8 bytes is refused 12");
+}
+
+/* Reads replies, and what is none; counts sequence numbers. */
+static void check_replies(void)
+{
+    const uint8_t echoed[14] = {3, 0, 0, 6, 0, 0, 4, 0, 0xA1, 0x61, 'r', 0x62, 'h', 'i'};
+    const uint8_t at_512[20] = {3, 0, 0, 12, 0, 1, 8, 1, 0xA2, 0x62, 'r', 'c', 0, 0x63, 'o', 'f', 'f', 0x19, 2, 0};
+    const uint8_t request[9] = {2, 0, 0, 1, 0, 0, 5, 5, 0xA0};
+    const uint32_t of_echo[BG_REPLY] = {3, 0, 6, 0, 4, 0, 0, 0, 0, 1, 12, 2};
+    const uint32_t of_512[BG_REPLY] = {3, 0, 12, 1, 8, 1, 0, 1, 512, 0, 0, 0};
+    uint32_t reply[BG_REPLY];
+
+    memset(reply, 0xEE, sizeof reply);
+    check(bg_read_reply(request, 9, reply) == 10, "a request is no reply: 10");
+    check(bg_read_reply(echoed, 13, reply) == 10, "a wrong length is refused 10");
+    check(bg_read_reply(NULL, 0, reply) == 10 && reply[0] == 0xEEEEEEEEu,
+          "an empty packet is refused 10, and all stays");
+    check(bg_read_reply(echoed, 14, reply) == 0 && same(reply, of_echo, sizeof reply), "an echo's reply");
+    check(bg_read_reply(at_512, 20, reply) == 0 && same(reply, of_512, sizeof reply), "an upload's reply");
+    check(bg_next_sequence(0) == 1 && bg_next_sequence(254) == 255 && bg_next_sequence(255) == 0,
+          "sequence numbers");
+}
+
+/* Runs the checks. */
+int main(void)
+{
+    check_sender();
+    check_reader();
+    check_controller();
+    check_writers();
+    check_replies();
+    printf("%u checks, %u wrong\n", checks, bad);
+    return bad == 0 ? 0 : 1;
+}

@@ -1,0 +1,243 @@
+/*
+ * A controller that misbehaves in one way, on a pseudo-terminal, to try the uploader with.
+ * fake MODE PORT_FILE MEMORY_FILE: writes its port's path to PORT_FILE, and its memory to MEMORY_FILE after each
+ * packet.
+ */
+#define _GNU_SOURCE
+#include <fcntl.h>
+#include <poll.h>
+#include <stdio.h>
+#include <stdlib.h>
+#include <string.h>
+#include <unistd.h>
+
+#include "belagunthi.h"
+#include "line.h"
+
+/* The memory, its slot, the packet buffer, how long the fake lives, and the packet at which some modes strike. */
+enum { MEMORY = 262144, START = 65536, SLOT = 131072, PACKET = 1024, LIFE_MS = 20000, STRIKE = 20 };
+
+/* The fake's memory, buffers and records. */
+struct fake {
+    int master;
+    const char *memory_file;
+    uint8_t memory[MEMORY];
+    uint8_t packet[PACKET];
+    uint8_t reply[PACKET];
+    uint32_t session[BG_SESSION];
+    uint8_t tag[BG_TAG];
+    unsigned packets;
+};
+
+static struct fake fake;
+
+/* Ends the fake with one line. */
+static void __attribute__((noreturn)) fail(const char *what)
+{
+    fprintf(stderr, "fake: %s\n", what);
+    exit(1);
+}
+
+/* Sends a packet's frames. */
+static void send_packet(struct fake *f, const uint8_t *packet, size_t len)
+{
+    uint32_t sent[2] = {0, 1};
+
+    for (size_t k = 0; k < sent[1]; k++) {
+        uint8_t line[BG_LINE];
+        if (bg_send_frame(packet, len, k, line, sizeof line, sent) != 0) {
+            fail("a frame was refused");
+        }
+        if (write_all(f->master, line, sent[0], 200) == WRITE_FAILED) {
+            fail("cannot write");
+        }
+    }
+}
+
+/* Sends a reply to the packet, with its header and the map given. */
+static void send_map(struct fake *f, const uint8_t *map, size_t len)
+{
+    uint8_t reply[64] = {3, 0, 0, (uint8_t)len, f->packet[4], f->packet[5], f->packet[6], f->packet[7]};
+
+    memcpy(reply + 8, map, len);
+    send_packet(f, reply, 8 + len);
+}
+
+/* Writes the memory to its file. */
+static void save(const struct fake *f)
+{
+    FILE *file = fopen(f->memory_file, "wb");
+
+    if (file == NULL || fwrite(f->memory, 1, MEMORY, file) != MEMORY || fclose(file) != 0) {
+        fail("cannot write the memory");
+    }
+}
+
+/* Handles a packet as a controller does; gives the length of the reply. */
+static uint32_t handle(struct fake *f, const uint8_t *packet, size_t len)
+{
+    uint32_t answer[2] = {0, 0};
+
+    if (bg_handle(f->memory, MEMORY, START, SLOT, f->session, f->tag, packet, len, f->reply, PACKET, answer) !=
+        0) {
+        fail("a packet was refused");
+    }
+    save(f);
+    return answer[0];
+}
+
+/* Begins with a closed session, as a controller that was started anew; the memory stays. */
+static void configure(struct fake *f)
+{
+    if (bg_configure(START, SLOT, MEMORY, f->session, f->tag) != 0) {
+        fail("the slot was refused");
+    }
+}
+
+/* Begins another host's session, of an image of 5,000 bytes without a tag. */
+static void begin_other_session(struct fake *f)
+{
+    static const uint8_t data[100] = {1, 2, 3};
+    uint8_t request[PACKET];
+    uint32_t len = 0;
+
+    if (bg_write_upload(9, data, sizeof data, 0, 5000, NULL, 0, request, sizeof request, &len) != 0) {
+        fail("the other session was refused");
+    }
+    handle(f, request, len);
+}
+
+/* Answers one packet in the fake's mode; false where the fake hangs up. */
+static bool answer(struct fake *f, const char *mode, size_t len)
+{
+    static const uint8_t far_off[] = {0xA2, 0x62, 'r', 'c', 0, 0x63, 'o', 'f', 'f', 0x1A, 0xFF, 0xFF, 0xFF, 0xFF};
+    static const uint8_t same_off[] = {0xA2, 0x62, 'r', 'c', 0, 0x63, 'o', 'f', 'f', 1};
+    static const uint8_t zero_off[] = {0xA2, 0x62, 'r', 'c', 0, 0x63, 'o', 'f', 'f', 0};
+    static const uint8_t no_off[] = {0xA1, 0x62, 'r', 'c', 0};
+    static const uint8_t busy[] = {0xA1, 0x62, 'r', 'c', 10};
+    uint32_t reply_len;
+
+    f->packets++;
+    if (strcmp(mode, "silent") == 0) {
+        return true;
+    }
+    if (strcmp(mode, "hang-up") == 0 && f->packets == STRIKE) {
+        return false;
+    }
+    if (strcmp(mode, "far-offset") == 0) {
+        send_map(f, far_off, sizeof far_off);
+        return true;
+    }
+    if (strcmp(mode, "same-offset") == 0) {
+        send_map(f, same_off, sizeof same_off);
+        return true;
+    }
+    if (strcmp(mode, "zero-offset") == 0) {
+        send_map(f, zero_off, sizeof zero_off);
+        return true;
+    }
+    if (strcmp(mode, "no-offset") == 0) {
+        send_map(f, no_off, sizeof no_off);
+        return true;
+    }
+    if (strcmp(mode, "busy") == 0 && f->packets >= STRIKE) {
+        send_map(f, busy, sizeof busy);
+        return true;
+    }
+    if (strcmp(mode, "loses-session") == 0 && f->packets == STRIKE) {
+        configure(f);
+    }
+    if (strcmp(mode, "reboots") == 0 && f->packets % STRIKE >= STRIKE - 3) {
+        configure(f);
+        return true;
+    }
+    if (strcmp(mode, "other-session") == 0 && f->packets == STRIKE) {
+        begin_other_session(f);
+    }
+    reply_len = handle(f, f->packet, len);
+    if (strcmp(mode, "other-sequence") == 0) {
+        f->reply[6] = bg_next_sequence(f->reply[6]);
+    }
+    if (strcmp(mode, "stray-replies") == 0) {
+        uint8_t right = f->reply[6];
+        f->reply[6] = (uint8_t)(right - 1);
+        send_packet(f, f->reply, reply_len);
+        f->reply[6] = right;
+        f->reply[7] = 5;
+        send_packet(f, f->reply, reply_len);
+        f->reply[7] = 1;
+    }
+    if (strcmp(mode, "no-rc") == 0) {
+        /* A2 62 r c 00 63 o f f ...: the map without its first pair. */
+        f->reply[12] = 0xA1;
+        send_map(f, f->reply + 12, reply_len - 12);
+        return true;
+    }
+    send_packet(f, f->reply, reply_len);
+    return true;
+}
+
+/* Opens the pseudo-terminal and writes its path to a file. */
+static int open_port(struct fake *f, const char *port_file)
+{
+    char draft[4096];
+    int slave;
+
+    f->master = posix_openpt(O_RDWR | O_NOCTTY);
+    if (f->master < 0 || grantpt(f->master) != 0 || unlockpt(f->master) != 0) {
+        fail("no pseudo-terminal");
+    }
+    slave = open(ptsname(f->master), O_RDWR | O_NOCTTY);
+    if (slave < 0 || make_raw(slave) != 0 || fcntl(f->master, F_SETFL, O_NONBLOCK) != 0) {
+        fail("cannot set up the pseudo-terminal");
+    }
+    snprintf(draft, sizeof draft, "%s.draft", port_file);
+    FILE *file = fopen(draft, "w");
+    if (file == NULL || fprintf(file, "%s\n", ptsname(f->master)) < 0 || fclose(file) != 0 ||
+        rename(draft, port_file) != 0) {
+        fail("cannot write the port's path");
+    }
+    return slave;
+}
+
+/* Serves in one mode until the fake's life is over or it hangs up. */
+int main(int argc, char **argv)
+{
+    static struct collector collector;
+    static uint32_t reader[BG_READER];
+    uint64_t until = now_ms() + LIFE_MS;
+    struct fake *f = &fake;
+
+    if (argc != 4) {
+        fail("usage: fake MODE PORT_FILE MEMORY_FILE");
+    }
+    f->memory_file = argv[3];
+    memset(f->memory, 255, MEMORY);
+    configure(f);
+    open_port(f, argv[2]);
+    while (now_ms() < until) {
+        uint8_t bytes[512];
+        struct pollfd wait = {.fd = f->master, .events = POLLIN};
+        if (strcmp(argv[1], "deaf") == 0) {
+            poll(NULL, 0, 100);
+            continue;
+        }
+        if (strcmp(argv[1], "babbling") == 0) {
+            write_all(f->master, (const uint8_t *)"babble babble babble\n", 21, 1);
+        }
+        poll(&wait, 1, 1);
+        ssize_t come = read(f->master, bytes, sizeof bytes);
+        for (ssize_t i = 0; i < come; i++) {
+            uint32_t body = 0;
+            size_t len = collect(&collector, bytes[i]);
+            if (len == 0 || bg_take_line(reader, collector.line, len, f->packet, PACKET, &body) != 0 ||
+                body == 0) {
+                continue;
+            }
+            if (strcmp(argv[1], "babbling") != 0 && !answer(f, argv[1], body)) {
+                return 0;
+            }
+        }
+    }
+    return 0;
+}
