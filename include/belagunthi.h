@@ -33,10 +33,19 @@
 extern "C" {
 #endif
 
-/* The reader's record: { open, total, come, first }. All 0 is idle; begin with that. Where open is not 0 a packet is open. */
+/*
+ * The reader's record: { open, total, come, first }. All 0 is idle; begin with that. Where open is not 0 a packet is open: total is 10 to
+ * 65,535, come counts the body and CRC bytes that have come and is below total, and first is the first CRC byte where come is total less 1,
+ * and is not looked at elsewhere; other numbers make it impossible, and so does a first above 255. A call that stores an open record stores
+ * open as 1, and first as 0 unless come is total less 1.
+ */
 #define BG_READER 4
 
-/* The session record: { open, length, place, tagged }, and beside it its tag of 32 bytes. All 0 is closed; bg_configure gives that. */
+/*
+ * The session record: { open, length, place, tagged }, and beside it its tag of 32 bytes. All 0 is closed; bg_configure gives that. Where open
+ * is 0 nothing else of it is looked at; where tagged is 0 the tag is not. An open one has a length of 1 to the slot's size and a place of 1 to
+ * the length; else it is impossible.
+ */
 #define BG_SESSION 4
 #define BG_TAG 32
 
@@ -72,8 +81,11 @@ uint32_t bg_configure(size_t start, size_t size, size_t memory_len, uint32_t ses
 
 /*
  * Takes one request packet: writes the slot as the upload rules say, and a reply to the start of the reply buffer, whose other bytes stay.
- * Returns 0 with answer = { the reply's length, 1 where a reset is asked, else 0 }, and the session record and tag for the next call.
- * No byte of the memory outside the slot is ever written. Refuses 1, 11 and 10, in this order: everything stays.
+ * Returns 0 with answer = { the reply's length, 1 where a reset is asked, else 0 }, and the session record and tag for the next call: open and
+ * tagged are then 0 or 1; a reset or an erase makes all of it 0; a start writes length, place and the tag, zeros where there is none; data that is
+ * added moves place alone; and any other request leaves the other numbers and the tag as they were lent. A request is at most 65,533 bytes long;
+ * an echo reply longer than the reply buffer becomes rc 7. No byte of the memory outside the slot is ever written.
+ * Refuses 1, 11 and 10, in this order: everything stays.
  */
 uint32_t bg_handle(uint8_t *memory, size_t memory_len, size_t start, size_t size, uint32_t session[BG_SESSION], uint8_t tag[BG_TAG],
                    const uint8_t *packet, size_t packet_len, uint8_t *reply, size_t reply_len, uint32_t answer[2]);

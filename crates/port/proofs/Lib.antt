@@ -2,3 +2,4 @@ pub mod Keeps
 pub mod Lines
 pub mod Sessions
 pub mod Small
+pub mod Reading

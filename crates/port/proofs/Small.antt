@@ -1,23 +1,22 @@
 -- The numbers that the writers and the sender give are small: each fits the 32 bits that C reads.
 -- Assumes nothing.
-use Prim.{Unit}
-use mathlib.Core.Path.{_≡_, sym, ap, subst, _∙_}
-use mathlib.Core.Bool.{Bool, true, false, not}
-use mathlib.Core.List.{List, [], _∷_, _++_}
-use Prim.Native.Nat.{ℕ, _+_, _≤_, _<_}
+use mathlib.Core.Path.{_≡_}
+use mathlib.Core.Bool.{not}
+use mathlib.Core.List.{List}
+use Prim.Native.Nat.{ℕ, _≤_, _<_}
 use native.Mathlib.Decide.{decLe}
 use native.Mathlib.Omega.{arith}
 use lib.Dec.{ltb, leb, eqb}
 use lib.ListN.{length, length-append}
 use borrow.Author.Tests.{leb-true, ltb-true, ltb-false, not-false}
-use Rattle.laws.specs.Choice.{pick, both}
+use Rattle.laws.specs.Choice.{pick}
 use Rattle.laws.proofs.Choice.{pick-case, both-true}
 use Rattle.frame.specs.Line.{initial, partial, frame}
 use Rattle.sender.specs.Sender as sending
 use Rattle.sender.specs.Sender.{frameCount, pieceOf, frameOf, sendable, sendFrame}
 use Rattle.sender.proofs.Count.{count-one, count-two, count-many}
 use Rattle.sender.proofs.Laws.{piece-length, text-room}
-use Rattle.host.specs.Write.{Told, Outcome, packet, refused, unsendable, put, misSized, writeEcho, writeReset, writeErase, writeFirst, writeUpload}
+use Rattle.host.specs.Write.{Outcome, packet, unsendable, put, misSized, writeEcho, writeReset, writeErase, writeFirst, writeUpload}
 
 -- a packet that was told is of at most 65,533 bytes
 abbrev pub Small : Outcome → Type 0

@@ -1,3 +1,4 @@
 pub mod Records
 pub mod Calls
 pub mod Small
+pub mod Steps

@@ -1,20 +1,25 @@
 // The C interface: both ends of the port as functions on numbers, byte slices and small arrays of numbers. include/belagunthi.h declares
 // them, with each promise beside its call.
+use host::Heard;
+use host::Reply;
 use host::Written;
 use reader::Answer;
 use reader::Reader;
 use sender::Sent;
 use slot::Configured;
+use slot::Number;
 use slot::Session;
 use slot::Slot;
+use smp::Run;
 ghost use mathlib.Core.Path.{_≡_};
 ghost use mathlib.Core.Bool.{Bool};
 ghost use mathlib.Core.List.{List, [], _∷_};
 ghost use Prim.Native.Nat.{_<_, _≤_, ℕ};
-ghost use Rattle.port.specs.Records.{readerNumbers, sessionOf, sessionNumbers, flagOf, numberOfFlag, readerFrom, sessionFrom};
-ghost use Rattle.port.specs.Calls.{TookLine, tookLine, keepsRecord, HandledC, handledC, wroteBy, wroteC, sentFrame, configuredC};
+ghost use Rattle.port.specs.Records.{readerNumbers, sessionOf, sessionNumbers, flagOf, numberOfFlag, readerFrom, sessionFrom, thereOf, orNone, runThere, runStart, runLength, replyNumbers};
+ghost use Rattle.port.specs.Calls.{TookLine, tookLine, keepsRecord, HandledC, handledC, wroteBy, wroteC, sentFrame, configuredC, readC};
 ghost use Rattle.port.specs.Small.{Storable, Held32};
 ghost use Rattle.host.specs.Write.{told, packet, writeEcho, writeReset, writeErase, writeUpload, nextSequence};
+ghost use Rattle.port.specs.Steps.{ReplySmall};
 
 // The reader's record out of its four numbers.
 fn reader_from(open: u32, total: u32, come: u32, first: u32) -> Reader
@@ -283,6 +288,104 @@ pub extern "C" fn bg_configure(
             return 0;
         }
         Configured::Refused(refusal) => {
+            return refusal::number(refusal);
+        }
+    }
+}
+
+// Whether a number is there.
+fn there_of(number: Number) -> u32
+    ensures { λ r. ⌜ r ≡ thereOf number ⌝ }
+{
+    let Number::Is(_) = number else {
+        return 0;
+    };
+    1
+}
+
+// A number that may be absent, or 0.
+fn or_none(number: Number) -> u32
+    requires { ⌜ orNone number ≤ 4294967295 ⌝ }
+    ensures { λ r. ⌜ r ≡ orNone number ⌝ }
+{
+    let Number::Is(n) = number else {
+        return 0;
+    };
+    n as u32
+}
+
+// Whether a text is there.
+fn run_there(run: Run) -> u32
+    ensures { λ r. ⌜ r ≡ runThere run ⌝ }
+{
+    let Run::At { start: _, len: _ } = run else {
+        return 0;
+    };
+    1
+}
+
+// Where a text starts, or 0.
+fn run_start(run: Run) -> u32
+    requires { ⌜ runStart run ≤ 4294967295 ⌝ }
+    ensures { λ r. ⌜ r ≡ runStart run ⌝ }
+{
+    let Run::At { start, len: _ } = run else {
+        return 0;
+    };
+    start as u32
+}
+
+// A text's length, or 0.
+fn run_length(run: Run) -> u32
+    requires { ⌜ runLength run ≤ 4294967295 ⌝ }
+    ensures { λ r. ⌜ r ≡ runLength run ⌝ }
+{
+    let Run::At { start: _, len } = run else {
+        return 0;
+    };
+    len as u32
+}
+
+// The numbers of a reply.
+fn reply_numbers(reply: Reply) -> [u32; 12]
+    requires { ⌜ ReplySmall reply ⌝ }
+    ensures { λ r. ⌜ r ≡ replyNumbers reply ⌝ }
+{
+    let header = reply.header;
+    let off = reply.off;
+    let text = reply.text;
+    let off_there = there_of(off);
+    let off_is = or_none(off);
+    let text_there = run_there(text);
+    let text_start = run_start(text);
+    let text_length = run_length(text);
+    [
+        header.op as u32,
+        header.flags as u32,
+        header.length as u32,
+        header.group as u32,
+        header.sequence as u32,
+        header.command as u32,
+        reply.rc as u32,
+        off_there,
+        off_is,
+        text_there,
+        text_start,
+        text_length,
+    ]
+}
+
+// Reads a packet as a reply.
+#[no_mangle]
+pub extern "C" fn bg_read_reply(packet: &[u8], reply: &mut [u32; 12]) -> u32
+    ensures { λ r. ⌜ record { result = r; reply = now (reply .exit) } ≡ readC (now (packet .entry)) (now (reply .entry)) ⌝ }
+{
+    match host::read_reply(packet) {
+        Heard::Reply(heard) => {
+            *reply = reply_numbers(heard);
+            return 0;
+        }
+        Heard::Refused(refusal) => {
             return refusal::number(refusal);
         }
     }

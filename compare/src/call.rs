@@ -1,0 +1,290 @@
+//! A call of the port as plain values, so that it can be made of either program, compared, shrunk and printed.
+
+use crate::archive;
+use second::port;
+use std::fmt::Write;
+
+/// The calls of the C header.
+#[derive(Clone, Copy, Debug, PartialEq, Eq)]
+pub enum Kind {
+    TakeLine,
+    SendFrame,
+    Configure,
+    Handle,
+    WriteEcho,
+    WriteReset,
+    WriteErase,
+    WriteUpload,
+    ReadReply,
+    NextSequence,
+}
+
+/// The names of a call's parameters: numbers passed by value, arrays of 32-bit words, and lent buffers.
+pub struct Shape {
+    pub name: &'static str,
+    pub numbers: &'static [&'static str],
+    pub words: &'static [(&'static str, usize)],
+    pub buffers: &'static [&'static str],
+}
+
+impl Kind {
+    /// The names of this call's parameters.
+    pub fn shape(self) -> Shape {
+        let (name, numbers, words, buffers): (_, &[_], &[_], &[_]) = match self {
+            Kind::TakeLine => ("bg_take_line", &[], &[("reader", 4), ("body", 1)], &["line", "packet"]),
+            Kind::SendFrame => ("bg_send_frame", &["k"], &[("sent", 2)], &["body", "out"]),
+            Kind::Configure => {
+                ("bg_configure", &["start", "size", "memory_len"], &[("session", 4)], &["tag"])
+            }
+            Kind::Handle => (
+                "bg_handle",
+                &["start", "size"],
+                &[("session", 4), ("answer", 2)],
+                &["memory", "tag", "packet", "reply"],
+            ),
+            Kind::WriteEcho => ("bg_write_echo", &["sequence"], &[("packet_len", 1)], &["text", "out"]),
+            Kind::WriteReset => ("bg_write_reset", &["sequence"], &[("packet_len", 1)], &["out"]),
+            Kind::WriteErase => ("bg_write_erase", &["sequence"], &[("packet_len", 1)], &["out"]),
+            Kind::WriteUpload => (
+                "bg_write_upload",
+                &["sequence", "off", "length"],
+                &[("packet_len", 1)],
+                &["data", "tag", "out"],
+            ),
+            Kind::ReadReply => ("bg_read_reply", &[], &[("reply", 12)], &["packet"]),
+            Kind::NextSequence => ("bg_next_sequence", &["sequence"], &[], &[]),
+        };
+        Shape { name, numbers, words, buffers }
+    }
+
+    /// Says whether a buffer is the session's tag, which always has 32 bytes.
+    pub fn is_session_tag(self, buffer: usize) -> bool {
+        matches!((self, buffer), (Kind::Configure, 0) | (Kind::Handle, 1))
+    }
+}
+
+/// A call with everything it is lent, in the order of its shape.
+#[derive(Clone, PartialEq, Eq)]
+pub struct Call {
+    pub kind: Kind,
+    pub numbers: Vec<u64>,
+    pub words: Vec<u32>,
+    pub buffers: Vec<Vec<u8>>,
+}
+
+/// What a call returned, and everything lent as it is afterwards.
+#[derive(Clone, PartialEq, Eq)]
+pub struct Outcome {
+    pub returned: u32,
+    pub words: Vec<u32>,
+    pub buffers: Vec<Vec<u8>>,
+    /// What the call wrote that it was not lent.
+    pub fault: Option<String>,
+}
+
+/// Takes a line.
+pub fn take_line(reader: [u32; 4], line: Vec<u8>, packet: Vec<u8>, body: u32) -> Call {
+    let [a, b, c, d] = reader;
+    Call { kind: Kind::TakeLine, numbers: vec![], words: vec![a, b, c, d, body], buffers: vec![line, packet] }
+}
+
+/// Sends a frame.
+pub fn send_frame(body: Vec<u8>, k: u64, out: Vec<u8>, sent: [u32; 2]) -> Call {
+    Call { kind: Kind::SendFrame, numbers: vec![k], words: sent.to_vec(), buffers: vec![body, out] }
+}
+
+/// Configures a slot.
+pub fn configure(start: u64, size: u64, memory: u64, session: [u32; 4], tag: [u8; 32]) -> Call {
+    Call {
+        kind: Kind::Configure,
+        numbers: vec![start, size, memory],
+        words: session.to_vec(),
+        buffers: vec![tag.to_vec()],
+    }
+}
+
+/// Handles a request.
+#[allow(clippy::too_many_arguments)]
+pub fn handle(
+    memory: Vec<u8>,
+    start: u64,
+    size: u64,
+    session: [u32; 4],
+    tag: [u8; 32],
+    packet: Vec<u8>,
+    reply: Vec<u8>,
+    answer: [u32; 2],
+) -> Call {
+    let [a, b, c, d] = session;
+    Call {
+        kind: Kind::Handle,
+        numbers: vec![start, size],
+        words: vec![a, b, c, d, answer[0], answer[1]],
+        buffers: vec![memory, tag.to_vec(), packet, reply],
+    }
+}
+
+/// Writes an echo.
+pub fn write_echo(sequence: u8, text: Vec<u8>, out: Vec<u8>, packet_len: u32) -> Call {
+    Call {
+        kind: Kind::WriteEcho,
+        numbers: vec![sequence as u64],
+        words: vec![packet_len],
+        buffers: vec![text, out],
+    }
+}
+
+/// Writes a reset or an erase.
+pub fn write_plain(kind: Kind, sequence: u8, out: Vec<u8>, packet_len: u32) -> Call {
+    Call { kind, numbers: vec![sequence as u64], words: vec![packet_len], buffers: vec![out] }
+}
+
+/// Writes an upload.
+pub fn write_upload(
+    sequence: u8,
+    data: Vec<u8>,
+    off: u64,
+    length: u64,
+    tag: Vec<u8>,
+    out: Vec<u8>,
+    packet_len: u32,
+) -> Call {
+    Call {
+        kind: Kind::WriteUpload,
+        numbers: vec![sequence as u64, off, length],
+        words: vec![packet_len],
+        buffers: vec![data, tag, out],
+    }
+}
+
+/// Reads a reply.
+pub fn read_reply(packet: Vec<u8>, reply: [u32; 12]) -> Call {
+    Call { kind: Kind::ReadReply, numbers: vec![], words: reply.to_vec(), buffers: vec![packet] }
+}
+
+/// Counts a sequence number on.
+pub fn next_sequence(sequence: u8) -> Call {
+    Call { kind: Kind::NextSequence, numbers: vec![sequence as u64], words: vec![], buffers: vec![] }
+}
+
+/// Makes a call of the second program.
+pub fn by_second(call: &Call) -> Outcome {
+    let numbers = &call.numbers;
+    let mut words = call.words.clone();
+    let mut buffers = call.buffers.clone();
+    let returned = match (call.kind, &mut words[..], &mut buffers[..]) {
+        (Kind::TakeLine, [reader @ .., body], [line, packet]) => {
+            port::take_line(reader.try_into().unwrap(), line, packet, body)
+        }
+        (Kind::SendFrame, sent, [body, out]) => {
+            port::send_frame(body, numbers[0] as usize, out, sent.try_into().unwrap())
+        }
+        (Kind::Configure, session, [tag]) => port::configure(
+            numbers[0] as usize,
+            numbers[1] as usize,
+            numbers[2] as usize,
+            session.try_into().unwrap(),
+            tag[..].as_mut().try_into().unwrap(),
+        ),
+        (Kind::Handle, words, [memory, tag, packet, reply]) => {
+            let (session, answer) = words.split_at_mut(4);
+            port::handle(
+                memory,
+                numbers[0] as usize,
+                numbers[1] as usize,
+                session.try_into().unwrap(),
+                tag[..].as_mut().try_into().unwrap(),
+                packet,
+                reply,
+                answer.try_into().unwrap(),
+            )
+        }
+        (Kind::WriteEcho, [length], [text, out]) => port::write_echo(numbers[0] as u8, text, out, length),
+        (Kind::WriteReset, [length], [out]) => port::write_reset(numbers[0] as u8, out, length),
+        (Kind::WriteErase, [length], [out]) => port::write_erase(numbers[0] as u8, out, length),
+        (Kind::WriteUpload, [length], [data, tag, out]) => {
+            port::write_upload(numbers[0] as u8, data, numbers[1], numbers[2], tag, out, length)
+        }
+        (Kind::ReadReply, reply, [packet]) => port::read_reply(packet, reply.try_into().unwrap()),
+        (Kind::NextSequence, ..) => port::next_sequence(numbers[0] as u8) as u32,
+        _ => unreachable!("a call has the parameters of its shape"),
+    };
+    Outcome { returned, words, buffers, fault: None }
+}
+
+/// Makes a call of both programs; gives both outcomes where they differ, else the one.
+pub fn compare(call: &Call, exact: bool) -> Result<Outcome, Box<(Outcome, Outcome)>> {
+    let archive = archive::call(call, exact);
+    let second = by_second(call);
+    if archive == second {
+        Ok(second)
+    } else {
+        Err(Box::new((archive, second)))
+    }
+}
+
+/// Bytes in hex, or where there are many their number and the runs of equal bytes.
+fn hex(bytes: &[u8]) -> String {
+    let mut text = format!("{} bytes:", bytes.len());
+    let mut at = 0;
+    while at < bytes.len() {
+        let run = bytes[at..].iter().take_while(|byte| **byte == bytes[at]).count();
+        if run > 16 {
+            write!(text, " {:02X}*{run}", bytes[at]).unwrap();
+            at += run;
+        } else {
+            write!(text, " {:02X}", bytes[at]).unwrap();
+            at += 1;
+        }
+        if text.len() > 20_000 {
+            write!(text, " .. ({} more)", bytes.len() - at).unwrap();
+            break;
+        }
+    }
+    text
+}
+
+/// A call and what it is lent, to be read by a person.
+pub fn show(call: &Call) -> String {
+    let shape = call.kind.shape();
+    let mut text = format!("{}\n", shape.name);
+    for (name, number) in shape.numbers.iter().zip(&call.numbers) {
+        writeln!(text, "  {name} = {number}").unwrap();
+    }
+    let mut at = 0;
+    for (name, length) in shape.words {
+        writeln!(text, "  {name} = {:?}", &call.words[at..at + length]).unwrap();
+        at += length;
+    }
+    for (name, buffer) in shape.buffers.iter().zip(&call.buffers) {
+        writeln!(text, "  {name}: {}", hex(buffer)).unwrap();
+    }
+    text
+}
+
+/// What two outcomes of a call have that is not the same.
+pub fn show_difference(call: &Call, archive: &Outcome, second: &Outcome) -> String {
+    let shape = call.kind.shape();
+    let mut text = format!("  returned: archive {}, second {}\n", archive.returned, second.returned);
+    let mut at = 0;
+    for (name, length) in shape.words {
+        let (a, b) = (&archive.words[at..at + length], &second.words[at..at + length]);
+        if a != b {
+            writeln!(text, "  {name} afterwards: archive {a:?}, second {b:?}").unwrap();
+        }
+        at += length;
+    }
+    for (i, name) in shape.buffers.iter().enumerate() {
+        let (a, b) = (&archive.buffers[i], &second.buffers[i]);
+        if a != b {
+            let place = a.iter().zip(b).take_while(|(a, b)| a == b).count();
+            writeln!(text, "  {name} afterwards differs from byte {place} on:").unwrap();
+            writeln!(text, "    archive {}", hex(a)).unwrap();
+            writeln!(text, "    second  {}", hex(b)).unwrap();
+        }
+    }
+    if let Some(fault) = &archive.fault {
+        writeln!(text, "  archive: {fault}").unwrap();
+    }
+    text
+}

@@ -1,0 +1,188 @@
+//! Makes each comparison, counts it, and reports the first difference.
+
+use crate::call::{compare, show, show_difference, Call, Kind, Outcome};
+use crate::shrink::shrink;
+use std::collections::BTreeMap;
+use std::sync::atomic::{AtomicPtr, AtomicU64, Ordering};
+use std::time::Instant;
+
+/// The comparison under way, for the report of a crash.
+static CURRENT: AtomicPtr<Call> = AtomicPtr::new(std::ptr::null_mut());
+/// The comparisons made so far.
+static MADE: AtomicU64 = AtomicU64::new(0);
+
+extern "C" {
+    fn signal(number: i32, handler: usize) -> usize;
+    fn alarm(seconds: u32) -> u32;
+    fn _exit(status: i32) -> !;
+}
+
+const SIGNALS: [(i32, &str); 6] = [
+    (4, "an illegal instruction"),
+    (6, "an abort"),
+    (7, "a bus error"),
+    (8, "an arithmetic fault"),
+    (11, "a fault of memory"),
+    (14, "no answer in two minutes"),
+];
+
+/// How long a call may take, in seconds.
+const PATIENCE: u32 = 120;
+
+/// Reports the call under way when a signal comes, and ends.
+extern "C" fn on_signal(number: i32) {
+    let what = SIGNALS.iter().find(|(known, _)| *known == number).map_or("a signal", |(_, what)| what);
+    let call = CURRENT.load(Ordering::Relaxed);
+    eprintln!("\nDIFFERENCE: {what} in comparison {}", MADE.load(Ordering::Relaxed) + 1);
+    if !call.is_null() {
+        // SAFETY: the call is lent to `watched` for as long as it is current.
+        eprintln!("{}", show(unsafe { &*call }));
+    }
+    // SAFETY: ends the process at once.
+    unsafe { _exit(1) }
+}
+
+/// Compares one call, which is reported if the archive ends the process by it.
+fn watched(call: &Call, exact: bool) -> Result<Outcome, Box<(Outcome, Outcome)>> {
+    CURRENT.store(call as *const Call as *mut Call, Ordering::Relaxed);
+    let answer = compare(call, exact);
+    CURRENT.store(std::ptr::null_mut(), Ordering::Relaxed);
+    answer
+}
+
+/// What a call answered, for the counts: a refusal, or where a request was taken what was done or its rc.
+fn answer_of(call: &Call, outcome: &Outcome) -> (&'static str, &'static str, Option<u32>) {
+    let name = call.kind.shape().name;
+    match (call.kind, outcome.returned) {
+        (Kind::NextSequence, _) => (name, "answered", None),
+        (Kind::TakeLine, 0) if outcome.words[4] == 0 => (name, "more", None),
+        (Kind::TakeLine, 0) => (name, "complete", None),
+        (Kind::Handle, 0) => match outcome.buffers[3][8..13] {
+            [0xA2, ..] if outcome.words[..4] == call.words[..4] => (name, "off told", None),
+            [0xA2, ..] => (name, "data written", None),
+            [0xA1, 0x62, _, _, rc] => (name, "rc", Some(rc as u32)),
+            _ => (name, "echo", None),
+        },
+        (_, 0) => (name, "done", None),
+        (_, number) => (name, "refused", Some(number)),
+    }
+}
+
+/// The counts of a run, by kind of input.
+pub struct Harness {
+    pub exact: bool,
+    seed: u64,
+    counts: Vec<(&'static str, u64)>,
+    answers: BTreeMap<(&'static str, &'static str, Option<u32>), u64>,
+    kind: usize,
+    began: Instant,
+    shown: Instant,
+}
+
+impl Harness {
+    /// A run with nothing compared yet.
+    pub fn new(seed: u64, exact: bool) -> Harness {
+        for (number, _) in SIGNALS {
+            // SAFETY: installs a handler that only reads and ends.
+            unsafe { signal(number, on_signal as *const () as usize) };
+        }
+        let now = Instant::now();
+        Harness { exact, seed, counts: Vec::new(), answers: BTreeMap::new(), kind: 0, began: now, shown: now }
+    }
+
+    /// Names the kind of input that the next comparisons are of.
+    pub fn kind(&mut self, name: &'static str) {
+        self.kind = self.counts.iter().position(|(known, _)| *known == name).unwrap_or_else(|| {
+            self.counts.push((name, 0));
+            self.counts.len() - 1
+        });
+    }
+
+    /// How many comparisons were made.
+    pub fn total(&self) -> u64 {
+        MADE.load(Ordering::Relaxed)
+    }
+
+    /// Compares one call; where the programs differ, reports the smallest such call found and ends.
+    pub fn check(&mut self, call: Call) -> Outcome {
+        if self.total() % 256 == 0 {
+            // SAFETY: sets the alarm clock anew.
+            unsafe { alarm(PATIENCE) };
+            if self.shown.elapsed().as_secs() >= 5 {
+                self.shown = Instant::now();
+                eprintln!("{:>9} comparisons, {:.0} s", self.total(), self.began.elapsed().as_secs_f64());
+            }
+        }
+        match watched(&call, self.exact) {
+            Ok(outcome) => {
+                self.counts[self.kind].1 += 1;
+                *self.answers.entry(answer_of(&call, &outcome)).or_default() += 1;
+                MADE.fetch_add(1, Ordering::Relaxed);
+                outcome
+            }
+            Err(outcomes) => self.report(&call, &outcomes.0, &outcomes.1),
+        }
+    }
+
+    /// Compares one call of the paper, and the outcome with what the paper says of it.
+    pub fn expect(&mut self, call: Call, holds: impl FnOnce(&Outcome) -> bool) {
+        let shown = call.clone();
+        let outcome = self.check(call);
+        if !holds(&outcome) {
+            println!("DIFFERENCE: both programs differ from the paper, returning {}", outcome.returned);
+            println!("{}", show(&shown));
+            std::process::exit(1);
+        }
+    }
+
+    /// Reports a difference and ends.
+    fn report(&self, call: &Call, archive: &Outcome, second: &Outcome) -> ! {
+        println!(
+            "DIFFERENCE in comparison {} ({}), seed {}",
+            self.total() + 1,
+            self.counts[self.kind].0,
+            self.seed
+        );
+        match watched(call, self.exact) {
+            Ok(_) => {
+                println!("made a second time the programs agree: the archive keeps something between calls");
+                println!("{}{}", show(call), show_difference(call, archive, second));
+            }
+            Err(_) => {
+                // SAFETY: sets the alarm clock anew for the shrinking.
+                unsafe { alarm(PATIENCE) };
+                let (smallest, steps) = shrink(call, |call| watched(call, self.exact).is_err());
+                match watched(&smallest, self.exact) {
+                    Err(outcomes) => {
+                        println!("the smallest such input found, in {steps} steps:\n{}", show(&smallest));
+                        println!("{}", show_difference(&smallest, &outcomes.0, &outcomes.1));
+                    }
+                    Ok(_) => println!("{}{}", show(call), show_difference(call, archive, second)),
+                }
+            }
+        }
+        std::process::exit(1)
+    }
+
+    /// Prints how many comparisons of each kind were made, and the total.
+    pub fn summary(&self) {
+        for (name, count) in &self.counts {
+            println!("{count:>9}  {name}");
+        }
+        println!("what they answered:");
+        let mut calls: BTreeMap<&str, Vec<String>> = BTreeMap::new();
+        for ((name, what, number), count) in &self.answers {
+            let number = number.map_or(String::new(), |number| format!(" {number}"));
+            calls.entry(name).or_default().push(format!("{what}{number}: {count}"));
+        }
+        for (name, answers) in calls {
+            println!("  {name}: {}", answers.join(", "));
+        }
+        println!(
+            "{:>9}  comparisons in all, no difference, seed {}, {:.1} s",
+            self.total(),
+            self.seed,
+            self.began.elapsed().as_secs_f64()
+        );
+    }
+}

@@ -1,0 +1,94 @@
+//! Compares the proved update port, by its C archive, with the second program: what each call returns, its
+//! out-parameters, its records and every lent byte, with guards around all that is lent.
+
+mod archive;
+mod call;
+mod exchange;
+mod harness;
+mod lines;
+mod maps;
+mod paper;
+mod replies;
+mod requests;
+mod rng;
+mod sends;
+mod shrink;
+mod systematic;
+mod writers;
+
+use harness::Harness;
+use rng::Rng;
+
+const HELP: &str = "compare: compares the archive libport.a with the second program
+
+  --seed N    the generator's seed (default 1)
+  --count N   how many comparisons to make, at least (default 5000000)
+  --exact     lend each buffer as an allocation of its own without guards, and null where it is
+              empty, for a run under a memory checker
+  --help      this text
+
+Prints progress, then how many comparisons of each kind were made and what they answered. On a difference it prints the
+smallest failing input that it finds, with both answers, and exits with status 1.";
+
+/// Makes some comparisons of one kind of input.
+type Generator = fn(&mut Harness, &mut Rng);
+
+/// The generators of random inputs, each with how often it is used.
+const GENERATORS: [(usize, Generator); 9] = [
+    (200, lines::single),
+    (6, lines::history),
+    (80, sends::single),
+    (200, requests::single),
+    (9, requests::history),
+    (1, requests::configure),
+    (80, writers::single),
+    (110, replies::single),
+    (1, exchange::run),
+];
+
+/// The number that follows an option.
+fn number(option: &str, value: Option<String>) -> u64 {
+    value.and_then(|value| value.replace('_', "").parse().ok()).unwrap_or_else(|| {
+        eprintln!("{option} wants a number\n\n{HELP}");
+        std::process::exit(2)
+    })
+}
+
+/// Reads the options and makes the comparisons.
+fn main() {
+    let (mut seed, mut count, mut exact) = (1, 5_000_000, false);
+    let mut words = std::env::args().skip(1);
+    while let Some(word) = words.next() {
+        match word.as_str() {
+            "--seed" => seed = number("--seed", words.next()),
+            "--count" => count = number("--count", words.next()),
+            "--exact" => exact = true,
+            "--help" | "-h" => {
+                println!("{HELP}");
+                return;
+            }
+            _ => {
+                eprintln!("unknown option {word}\n\n{HELP}");
+                std::process::exit(2);
+            }
+        }
+    }
+    let mut harness = Harness::new(seed, exact);
+    paper::run(&mut harness);
+    if count >= 500_000 {
+        systematic::run(&mut harness, &mut Rng::new(seed, 1));
+    }
+    let mut rng = Rng::new(seed, 2);
+    let weights: usize = GENERATORS.iter().map(|(weight, _)| weight).sum();
+    while harness.total() < count {
+        let mut ticket = rng.below(weights);
+        for (weight, generate) in GENERATORS {
+            if ticket < weight {
+                generate(&mut harness, &mut rng);
+                break;
+            }
+            ticket -= weight;
+        }
+    }
+    harness.summary();
+}

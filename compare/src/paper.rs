@@ -1,0 +1,311 @@
+//! The cases that the paper and the published vectors name, with what they say of each.
+
+use crate::call::*;
+use crate::harness::Harness;
+use second::sender;
+
+const IDLE: [u32; 4] = [0; 4];
+
+/// The packet with op 2 of a group, a command and a payload.
+fn packet(group: u8, command: u8, payload: &[u8]) -> Vec<u8> {
+    let [high, low] = (payload.len() as u16).to_be_bytes();
+    [&[2, 0, high, low, 0, group, 0x42, command], payload].concat()
+}
+
+/// A request on a memory of 40 bytes, slot 3 to 22, with a session.
+fn on_slot(session: [u32; 4], tag: [u8; 32], packet: Vec<u8>) -> Call {
+    handle(vec![0x11; 40], 3, 20, session, tag, packet, vec![0xEE; 40], [77, 78])
+}
+
+/// An upload's packet, by the second program's writer.
+fn upload(data: &[u8], off: u64, length: u64, tag: &[u8]) -> Vec<u8> {
+    let mut out = vec![0; data.len() + 100];
+    let mut written = 0;
+    assert_eq!(second::port::write_upload(0x42, data, off, length, tag, &mut out, &mut written), 0);
+    out.truncate(written as usize);
+    out
+}
+
+/// The map of a reply to a request on the slot.
+fn map(outcome: &Outcome) -> &[u8] {
+    &outcome.buffers[3][8..outcome.words[4] as usize]
+}
+
+/// The map {"rc": rc}.
+fn rc(rc: u8) -> [u8; 5] {
+    [0xA1, 0x62, 0x72, 0x63, rc]
+}
+
+/// The map {"rc": 0, "off": n}, n below 24.
+fn success(n: u8) -> [u8; 10] {
+    [0xA2, 0x62, 0x72, 0x63, 0, 0x63, 0x6F, 0x66, 0x66, n]
+}
+
+/// Says whether a request on the slot left memory, session and tag as they were.
+fn left_alone(outcome: &Outcome, session: [u32; 4], tag: [u8; 32]) -> bool {
+    outcome.buffers[0] == [0x11; 40] && outcome.words[..4] == session && outcome.buffers[1] == tag
+}
+
+/// The slot after a start with some data, in the memory of `on_slot`.
+fn started(data: &[u8]) -> Vec<u8> {
+    let mut memory = vec![0x11; 40];
+    memory[3..23].fill(255);
+    memory[3..3 + data.len()].copy_from_slice(data);
+    memory
+}
+
+/// "Both sides of each edge".
+fn edges(harness: &mut Harness) {
+    harness.kind("the paper: both sides of each edge");
+    let line = b"\x06\x09AAoAAAAAAAAAAAAA\x0A".to_vec();
+    harness.expect(send_frame(vec![0; 8], 0, vec![0xEE; 127], [5, 5]), |outcome| {
+        outcome.returned == 0 && outcome.words == [19, 1] && outcome.buffers[1][..19] == line
+    });
+    harness.expect(take_line(IDLE, line.clone(), vec![0xEE; 9], 5), |outcome| {
+        outcome.returned == 0
+            && outcome.words == [0, 0, 0, 0, 8]
+            && outcome.buffers[1] == [0, 0, 0, 0, 0, 0, 0, 0, 0xEE]
+    });
+    harness.expect(on_slot(IDLE, [0; 32], vec![0; 8]), |outcome| {
+        outcome.words[4..] == [13, 0]
+            && outcome.buffers[3][..14] == [1, 0, 0, 5, 0, 0, 0, 0, 0xA1, 0x62, 0x72, 0x63, 3, 0xEE]
+    });
+    let first = upload(&[9; 512], 0, 1000, &[]);
+    harness.expect(handle(vec![0; 1000], 0, 1000, IDLE, [0; 32], first, vec![0; 32], [5, 5]), |outcome| {
+        map(outcome) == [0xA2, 0x62, 0x72, 0x63, 0x00, 0x63, 0x6F, 0x66, 0x66, 0x19, 0x02, 0x00]
+    });
+    harness.expect(write_upload(0, vec![1], 512, 0, vec![], vec![0; 30], 5), |outcome| {
+        outcome.words == [23]
+            && outcome.buffers[2][8..23]
+                == [0xA2, 0x64, 0x64, 0x61, 0x74, 0x61, 0x41, 0x01, 0x63, 0x6F, 0x66, 0x66, 0x19, 0x02, 0x00]
+    });
+    for (length, k, sent) in [
+        (88, 0, [127, 1]),
+        (89, 0, [127, 2]),
+        (89, 1, [7, 2]),
+        (182, 0, [127, 2]),
+        (182, 1, [127, 2]),
+        (183, 0, [127, 3]),
+        (183, 1, [127, 3]),
+        (183, 2, [7, 3]),
+        (65_533, 0, [127, 705]),
+        (65_533, 704, [95, 705]),
+    ] {
+        let body = (0..length).map(|i| (i % 253) as u8).collect();
+        harness.expect(send_frame(body, k, vec![0xEE; 127], [5, 5]), |outcome| {
+            outcome.returned == 0 && outcome.words[1] == sent[1] && (k == 704 || outcome.words[0] == sent[0])
+        });
+    }
+    for (length, k) in [(88, 1), (89, 2), (182, 2), (183, 3), (65_533, 705)] {
+        harness.expect(send_frame(vec![3; length], k, vec![0xEE; 127], [5, 5]), |outcome| {
+            outcome.returned == 13
+        });
+    }
+    harness.expect(on_slot(IDLE, [0; 32], upload(&[1, 2], 0, 20, &[])), |outcome| {
+        map(outcome) == success(2)
+            && outcome.words[..4] == [1, 20, 2, 0]
+            && outcome.buffers[0] == started(&[1, 2])
+    });
+    harness.expect(on_slot(IDLE, [0; 32], upload(&[1, 2], 0, 21, &[])), |outcome| {
+        map(outcome) == rc(3) && left_alone(outcome, IDLE, [0; 32])
+    });
+    let open = [1, 10, 4, 0];
+    harness.expect(on_slot(open, [0; 32], upload(&[7; 6], 4, 0, &[])), |outcome| {
+        let mut memory = vec![0x11; 40];
+        memory[7..13].fill(7);
+        map(outcome) == success(10) && outcome.words[..4] == [1, 10, 10, 0] && outcome.buffers[0] == memory
+    });
+    harness.expect(on_slot(open, [0; 32], upload(&[7; 7], 4, 0, &[])), |outcome| {
+        map(outcome) == rc(3) && left_alone(outcome, open, [0; 32])
+    });
+    harness.expect(on_slot(IDLE, [0; 32], upload(&[7; 7], 5, 0, &[])), |outcome| {
+        map(outcome) == success(0) && left_alone(outcome, IDLE, [0; 32])
+    });
+}
+
+/// "Errors that come easily".
+fn errors(harness: &mut Harness) {
+    harness.kind("the paper: errors that come easily");
+    let tag = [8; 32];
+    let open = [1, 10, 4, 1];
+    for off in [1, 2, 3, 5, 10, 11, 4_294_967_295] {
+        harness.expect(on_slot(open, tag, upload(&[7; 3], off, 0, &[])), |outcome| {
+            map(outcome) == success(4) && left_alone(outcome, open, tag)
+        });
+    }
+    for off in [
+        &b"\x1B\0\0\0\x01\0\0\0\x04"[..],
+        b"\x1B\xFF\xFF\xFF\xFF\xFF\xFF\xFF\xFF",
+        b"\x1B\xFF\xFF\xFF\xFF\0\0\0\x04",
+    ] {
+        let payload = [b"\xA2\x64data\x41\x01\x63off", off].concat();
+        harness.expect(on_slot(open, tag, packet(1, 1, &payload)), |outcome| {
+            map(outcome) == rc(3) && left_alone(outcome, open, tag)
+        });
+    }
+    harness.expect(on_slot(open, tag, upload(&[7; 3], 0, 11, &tag)), |outcome| {
+        map(outcome) == rc(3) && left_alone(outcome, open, tag)
+    });
+    harness.expect(on_slot(open, tag, upload(&[7; 3], 0, 10, &tag)), |outcome| {
+        map(outcome) == success(4) && left_alone(outcome, open, tag)
+    });
+    harness.expect(on_slot(open, tag, upload(&[7; 3], 0, 10, &[])), |outcome| {
+        map(outcome) == success(3)
+            && outcome.words[..4] == [1, 10, 3, 0]
+            && outcome.buffers[1] == [0; 32]
+            && outcome.buffers[0] == started(&[7; 3])
+    });
+    harness.expect(on_slot([1, 10, 4, 0], [0; 32], upload(&[7; 3], 0, 10, &[0; 32])), |outcome| {
+        map(outcome) == success(3) && outcome.words[..4] == [1, 10, 3, 1]
+    });
+    // The CRC with total in it, and the right one.
+    for (with_total, answer) in [(true, 9), (false, 0)] {
+        let raw = [0, 10, 1, 2, 3, 4, 5, 6, 7, 8];
+        let crc = second::crc::crc16(if with_total { &raw } else { &raw[2..] });
+        let line = sender::line([6, 9], &[&raw[..], &crc.to_be_bytes()].concat());
+        harness.expect(take_line([1, 40, 3, 0], line, vec![0xEE; 8], 5), |outcome| {
+            outcome.returned == answer && outcome.words[..4] == IDLE
+        });
+    }
+    // A frame of 4 raw bytes, whose text ends in padding, and then the rest.
+    harness.expect(take_line(IDLE, b"\x06\x09AAsBAg==\x0A".to_vec(), vec![0; 9], 5), |outcome| {
+        outcome.returned == 0 && outcome.words == [1, 11, 2, 0, 0] && outcome.buffers[1][..3] == [1, 2, 0]
+    });
+    harness.expect(take_line([1, 11, 2, 0], b"\x04\x14AA\x0A".to_vec(), vec![0; 9], 5), |outcome| {
+        outcome.returned == 4 && outcome.words == [0, 0, 0, 0, 5]
+    });
+    // A console line between.
+    for (line, answer) in [(&b"hello\r\n"[..], 3), (b"\n", 3), (b"", 3), (&[b'x'; 128], 2)] {
+        harness.expect(take_line([1, 11, 2, 0], line.to_vec(), vec![0; 9], 5), |outcome| {
+            outcome.returned == answer && outcome.words == [1, 11, 2, 0, 5]
+        });
+    }
+}
+
+/// The published vectors of CRC-16/XMODEM, RFC 4648 and RFC 8949, as far as calls can show them.
+fn vectors(harness: &mut Harness) {
+    harness.kind("published vectors");
+    let raw = [b"\x00\x0B123456789", &[0x31, 0xC3][..]].concat();
+    let line = sender::line([6, 9], &raw);
+    harness.expect(send_frame(b"123456789".to_vec(), 0, vec![0; 127], [5, 5]), |outcome| {
+        outcome.returned == 0 && outcome.buffers[1][..line.len()] == line
+    });
+    harness.expect(take_line(IDLE, line.clone(), vec![0; 9], 5), |outcome| {
+        outcome.returned == 0 && outcome.buffers[1] == b"123456789"
+    });
+    // Leading zero bytes leave the register at 0, so the one-byte vectors end bodies of eight bytes.
+    for (byte, crc) in [(0x00, 0x0000u16), (0x01, 0x1021), (b'A', 0x58E5)] {
+        let body = [0, 0, 0, 0, 0, 0, 0, byte];
+        let line = sender::line([6, 9], &[&[0, 10], &body[..], &crc.to_be_bytes()].concat());
+        harness.expect(send_frame(body.to_vec(), 0, vec![0; 127], [5, 5]), |outcome| {
+            outcome.buffers[1][..line.len()] == line
+        });
+    }
+    let texts: [(&[u8], &[u8]); 6] = [
+        (b"Zg==", b"f"),
+        (b"Zm8=", b"fo"),
+        (b"Zm9v", b"foo"),
+        (b"Zm9vYg==", b"foob"),
+        (b"Zm9vYmE=", b"fooba"),
+        (b"Zm9vYmFy", b"foobar"),
+    ];
+    for (text, bytes) in texts {
+        let line = [b"\x04\x14", text, b"\x0A"].concat();
+        harness.expect(take_line([1, 20, 0, 0], line, vec![0; 18], 5), |outcome| {
+            outcome.returned == 0
+                && outcome.words == [1, 20, bytes.len() as u32, 0, 0]
+                && outcome.buffers[1][..bytes.len()] == *bytes
+        });
+    }
+    let refused: [&[u8]; 12] = [
+        b"",
+        b"Zh==",
+        b"Zm9=",
+        b"A===",
+        b"====",
+        b"AA==AAAA",
+        b"AA=A",
+        b"AAAA=",
+        b"AA-A",
+        b"AA_A",
+        b"AAA",
+        b"AA\nA",
+    ];
+    for text in refused {
+        let line = [b"\x04\x14", text, b"\x0A"].concat();
+        harness.expect(take_line([1, 20, 0, 0], line, vec![0; 18], 5), |outcome| {
+            outcome.returned == 4 && outcome.words == [0, 0, 0, 0, 5]
+        });
+    }
+    let numbers: [(&[u8], Option<u32>); 16] = [
+        (&[0x00], Some(0)),
+        (&[0x01], Some(1)),
+        (&[0x0A], Some(10)),
+        (&[0x17], Some(23)),
+        (&[0x18, 0x18], Some(24)),
+        (&[0x18, 0x19], Some(25)),
+        (&[0x18, 0x64], Some(100)),
+        (&[0x19, 0x03, 0xE8], Some(1000)),
+        (&[0x1A, 0x00, 0x0F, 0x42, 0x40], Some(1_000_000)),
+        (&[0x1B, 0x00, 0x00, 0x00, 0xE8, 0xD4, 0xA5, 0x10, 0x00], None),
+        (&[0x1B, 0xFF, 0xFF, 0xFF, 0xFF, 0xFF, 0xFF, 0xFF, 0xFF], None),
+        (&[0x20], None),
+        (&[0x29], None),
+        (&[0x38, 0x63], None),
+        (&[0x39, 0x03, 0xE7], None),
+        (&[0xF9, 0x3E, 0x00], None),
+    ];
+    for (value, number) in numbers {
+        let payload = [b"\xA1\x63off", value].concat();
+        let packet = [&[1, 0, 0, payload.len() as u8, 0, 1, 0, 1], &payload[..]].concat();
+        harness.expect(read_reply(packet, [5; 12]), |outcome| match number {
+            Some(number) => outcome.returned == 0 && outcome.words[7..9] == [1, number],
+            None => outcome.returned == 10 && outcome.words == [5; 12],
+        });
+    }
+    let values: [(&[u8], bool); 24] = [
+        (&[0x40], true),
+        (&[0x44, 1, 2, 3, 4], true),
+        (&[0x60], true),
+        (&[0x61, 0x61], true),
+        (&[0x64, 0x49, 0x45, 0x54, 0x46], true),
+        (&[0xF4], true),
+        (&[0xF5], true),
+        (&[0xF6], true),
+        (&[0x20], true),
+        (&[0x29], true),
+        (&[0x38, 0x63], true),
+        (&[0x39, 0x03, 0xE7], true),
+        (&[0x1B, 0xFF, 0xFF, 0xFF, 0xFF, 0xFF, 0xFF, 0xFF, 0xFF], true),
+        (&[0x3B, 0xFF, 0xFF, 0xFF, 0xFF, 0xFF, 0xFF, 0xFF, 0xFF], true),
+        (&[0xF7], false),
+        (&[0xF9, 0x3E, 0x00], false),
+        (&[0xFA, 0x47, 0xC3, 0x50, 0x00], false),
+        (&[0xFB, 0x3F, 0xF1, 0x99, 0x99, 0x99, 0x99, 0x99, 0x9A], false),
+        (&[0x5F, 0x41, 0x01, 0xFF], false),
+        (&[0x7F, 0x61, 0x61, 0xFF], false),
+        (&[0xBF, 0xFF], false),
+        (&[0x82, 0x02, 0x03], false),
+        (&[0xA0], false),
+        (&[0xF8, 0x14], false),
+    ];
+    for (value, skipped) in values {
+        let payload = [b"\xA1\x61a", value].concat();
+        let packet = [&[1, 0, 0, payload.len() as u8, 0, 1, 0, 1], &payload[..]].concat();
+        harness.expect(read_reply(packet, [5; 12]), |outcome| (outcome.returned == 0) == skipped);
+    }
+    harness.expect(read_reply(vec![1, 0, 0, 1, 0, 0, 0, 0, 0xA0], [5; 12]), |outcome| outcome.returned == 0);
+    let nested = b"\x01\0\0\x09\0\0\0\0\xA2\x61\x61\x01\x61\x62\x82\x02\x03".to_vec();
+    harness.expect(read_reply(nested, [5; 12]), |outcome| outcome.returned == 10);
+}
+
+/// Compares all of them.
+pub fn run(harness: &mut Harness) {
+    edges(harness);
+    errors(harness);
+    vectors(harness);
+    harness.kind("next sequence, every number");
+    for sequence in 0..=255u8 {
+        harness.expect(next_sequence(sequence), |outcome| outcome.returned == (sequence as u32 + 1) % 256);
+    }
+}

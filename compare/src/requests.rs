@@ -1,0 +1,277 @@
+//! Requests for the controller: single ones for any record, and histories on one memory.
+
+use crate::call::{configure as configure_call, handle};
+use crate::harness::Harness;
+use crate::maps::{packet, payload, Item, Pair};
+use crate::rng::Rng;
+
+/// What a controller is lent from call to call.
+struct Device {
+    memory: Vec<u8>,
+    start: u64,
+    size: u64,
+    session: [u32; 4],
+    tag: [u8; 32],
+}
+
+impl Device {
+    /// A controller with a slot somewhere in a small memory, now and then a larger one; its session closed.
+    fn new(rng: &mut Rng) -> Device {
+        let size = match rng.below(12) {
+            0 => rng.range(1, 3),
+            1..=7 => rng.range(4, 60),
+            8..=10 => rng.range(20, 300),
+            _ if rng.once_in(400) => 1_048_576 - rng.pick(&[0, 0, 1, 7]),
+            _ => rng.range(300, 2000),
+        };
+        let start = if rng.once_in(3) { 0 } else { rng.below(30) };
+        let after = if rng.once_in(3) { 0 } else { rng.below(30) };
+        let memory = rng.bytes(start + size + after);
+        Device { memory, start: start as u64, size: size as u64, session: [0; 4], tag: [0; 32] }
+    }
+
+    /// A session record that is possible in the slot, in normal form or not.
+    fn open(&mut self, rng: &mut Rng) {
+        let length = if rng.once_in(2) { self.size as u32 } else { rng.range(1, self.size as usize) as u32 };
+        let place = if rng.once_in(5) { length } else { rng.range(1, length as usize) as u32 };
+        let tagged = rng.below(2) as u32;
+        self.session = [1, length, place, tagged];
+        self.tag = if tagged == 1 { rng.tag() } else { [0; 32] };
+        if rng.once_in(10) {
+            self.session[0] = rng.word() | 2;
+            self.session[3] = if tagged == 1 { rng.word() | 2 } else { 0 };
+        }
+        if tagged == 0 && rng.once_in(4) {
+            self.tag = rng.tag();
+        }
+    }
+
+    /// A closed session record, in normal form or with leftovers.
+    fn close(&mut self, rng: &mut Rng) {
+        self.session = [0; 4];
+        self.tag = [0; 32];
+        if rng.once_in(4) {
+            self.session = [0, rng.number() as u32, rng.number() as u32, rng.word() & 3];
+            self.tag = rng.tag();
+        }
+    }
+
+    /// Compares one packet on this controller, and goes on with what it leaves.
+    fn ask(&mut self, harness: &mut Harness, rng: &mut Rng, packet: Vec<u8>) {
+        let room = match rng.below(16) {
+            0 => rng.below(32),
+            1..=6 => 32,
+            7..=10 => rng.range(32, 60),
+            _ => rng.range(32, 400),
+        };
+        let reply = rng.bytes(room);
+        let memory = std::mem::take(&mut self.memory);
+        let answer = [rng.word(), rng.word()];
+        let call = handle(memory, self.start, self.size, self.session, self.tag, packet, reply, answer);
+        let mut outcome = harness.check(call);
+        self.session = outcome.words[..4].try_into().unwrap();
+        self.tag = outcome.buffers[1][..].try_into().unwrap();
+        self.memory = outcome.buffers.swap_remove(0);
+    }
+}
+
+/// A number for "off" or "len": near to the session's or the slot's, or any.
+fn near(rng: &mut Rng, device: &Device) -> u64 {
+    let [_, length, place, _] = device.session;
+    let base = rng.pick(&[0, place as u64, place as u64, length as u64, device.size]);
+    match rng.below(8) {
+        0 => base.wrapping_add(1),
+        1 => base.saturating_sub(1),
+        2 => rng.number(),
+        3 => base.wrapping_add(1 << 32),
+        _ => base,
+    }
+}
+
+/// Data for an upload: to the session's end, one more, or any length.
+fn data(rng: &mut Rng, device: &Device, end: u64, from: u64) -> Vec<u8> {
+    let left = end.saturating_sub(from).min(3000) as usize;
+    let length = match rng.below(10) {
+        0 | 1 => left,
+        2 => left + 1,
+        3 => left.saturating_sub(1),
+        4 => rng.below(4),
+        5 => rng.pick(&[23, 24, 255, 256]),
+        6 => rng.below(left + 2),
+        _ => rng.range(1, (device.size as usize).min(60)),
+    };
+    rng.bytes(length)
+}
+
+/// An upload's pairs, for a controller as it stands.
+fn upload(rng: &mut Rng, device: &Device) -> Vec<Pair> {
+    let [open, length, place, tagged] = device.session;
+    let mut pairs: Vec<Pair> = Vec::new();
+    if rng.once_in(2) {
+        // The next chunk, or nearly.
+        let off = if rng.once_in(3) { near(rng, device) } else { place.max(1) as u64 };
+        pairs.push((b"data".to_vec(), Item::Bytes(data(rng, device, length as u64, off))));
+        pairs.push((b"off".to_vec(), Item::Unsigned(off)));
+        if rng.once_in(6) {
+            pairs.push((b"len".to_vec(), Item::Unsigned(near(rng, device))));
+        }
+    } else {
+        // A first chunk: often with the session's own tag and length.
+        let same = open != 0 && rng.once_in(2);
+        let len = match rng.below(6) {
+            0 => near(rng, device),
+            1 => device.size,
+            2 => device.size + 1,
+            _ if same => length as u64,
+            _ => rng.range(1, device.size as usize) as u64,
+        };
+        pairs.push((b"data".to_vec(), Item::Bytes(data(rng, device, len, 0))));
+        if !rng.once_in(30) {
+            pairs.push((b"len".to_vec(), Item::Unsigned(len)));
+        }
+        pairs.push((b"off".to_vec(), Item::Unsigned(0)));
+        if tagged != 0 && same {
+            pairs.push((b"sha".to_vec(), Item::Bytes(device.tag.to_vec())));
+        } else if rng.once_in(2) {
+            let mut tag = rng.tag().to_vec();
+            if rng.once_in(6) {
+                tag.resize(rng.pick(&[0, 1, 31, 33, 64]), 9);
+            }
+            pairs.push((b"sha".to_vec(), Item::Bytes(tag)));
+        }
+    }
+    if rng.once_in(8) {
+        let image = rng.pick(&[0, 0, 0, 1, 1 << 32, u64::MAX]);
+        pairs.push((b"image".to_vec(), Item::Unsigned(image)));
+    }
+    if rng.once_in(8) {
+        pairs.push((b"upgrade".to_vec(), Item::Raw(vec![rng.pick(&[0xF4, 0xF4, 0xF5, 0xF6, 0xF7])])));
+    }
+    pairs
+}
+
+/// A request for a controller as it stands.
+fn request(rng: &mut Rng, device: &Device) -> Vec<u8> {
+    let spoil = rng.once_in(4);
+    let (mut op, mut group, mut command, pairs): (_, _, _, Vec<Pair>) = match rng.below(20) {
+        0..=3 => {
+            let length = match rng.below(8) {
+                0 => rng.pick(&[0, 19, 20, 21, 22, 23, 24, 25]),
+                1 => rng.pick(&[255, 256, 257, 300]),
+                2 if rng.once_in(100) => rng.pick(&[65_519, 65_520, 65_510, 30_000]),
+                _ => rng.below(60),
+            };
+            (rng.pick(&[0, 2]), 0, 0, vec![(b"d".to_vec(), Item::Text(rng.bytes(length)))])
+        }
+        4 => (2, 0, 5, vec![]),
+        5 => {
+            let slot = rng.pick(&[1, 1, 1, 0, 2, 255, 257, 1 << 32, (1 << 32) + 1, u64::MAX]);
+            let pairs = if rng.once_in(2) { vec![] } else { vec![(b"slot".to_vec(), Item::Unsigned(slot))] };
+            (2, 1, 5, pairs)
+        }
+        6 => (rng.pick(&[0, 2]), rng.below(3) as u16, rng.below(7) as u8, upload(rng, device)),
+        _ => (2, 1, 1, upload(rng, device)),
+    };
+    if rng.once_in(40) {
+        op = rng.pick(&[0, 1, 2, 3, 4, 10, 255]);
+    }
+    if rng.once_in(60) {
+        group = rng.pick(&[0, 1, 2, 256, 257, 0xFFFF]);
+    }
+    if rng.once_in(60) {
+        command = rng.byte();
+    }
+    let payload = match rng.below(50) {
+        0 => vec![],
+        1 => {
+            let length = rng.below(40);
+            rng.bytes(length)
+        }
+        _ => payload(rng, pairs, spoil),
+    };
+    packet(rng, op, group, command, &payload)
+}
+
+/// One request for any memory, slot and record, possible or not.
+pub fn single(harness: &mut Harness, rng: &mut Rng) {
+    harness.kind("requests: single, any slot and record");
+    let mut device = Device::new(rng);
+    if rng.once_in(3) {
+        device.close(rng);
+    } else {
+        device.open(rng);
+    }
+    let packet = request(rng, &device);
+    if rng.once_in(12) {
+        match rng.below(8) {
+            0 => device.session[1] = rng.pick(&[0, device.size as u32 + 1, u32::MAX]),
+            1 => device.session[2] = rng.pick(&[0, device.session[1].wrapping_add(1), u32::MAX]),
+            2 => {
+                device.size =
+                    rng.pick(&[0, device.size + 1, 1_048_577, u64::MAX, device.start.wrapping_neg()])
+            }
+            3 => device.start = rng.pick(&[device.start + 1, u64::MAX, device.size.wrapping_neg()]),
+            4 => device.memory.truncate(rng.below(device.memory.len() + 1)),
+            5 => device.memory.push(9),
+            6 => {
+                device.session =
+                    [rng.number() as u32, rng.number() as u32, rng.number() as u32, rng.word() & 1]
+            }
+            _ => device.memory.clear(),
+        }
+    }
+    device.ask(harness, rng, packet);
+}
+
+/// A history of requests on one memory: chunks, repeats, resumes, restarts, erases, resets, damage.
+pub fn history(harness: &mut Harness, rng: &mut Rng) {
+    harness.kind("requests: histories on one memory");
+    let mut device = Device::new(rng);
+    let mut sent: Vec<Vec<u8>> = Vec::new();
+    let steps = if device.size > 100_000 { 4 } else { rng.range(4, 24) };
+    for _ in 0..steps {
+        let packet = if !sent.is_empty() && rng.once_in(5) { rng.pick(&sent) } else { request(rng, &device) };
+        if rng.once_in(60) {
+            device.open(rng);
+        }
+        if rng.once_in(60) {
+            let call = configure_call(
+                device.start,
+                device.size,
+                device.memory.len() as u64,
+                device.session,
+                device.tag,
+            );
+            let outcome = harness.check(call);
+            device.session = outcome.words[..].try_into().unwrap();
+            device.tag = outcome.buffers[0][..].try_into().unwrap();
+        }
+        sent.push(packet.clone());
+        device.ask(harness, rng, packet);
+    }
+}
+
+/// A slot region, possible or not.
+pub fn configure(harness: &mut Harness, rng: &mut Rng) {
+    harness.kind("configurations");
+    for _ in 0..8 {
+        let size = match rng.below(4) {
+            0 => rng.pick(&[0, 1, 2, 1_048_575, 1_048_576, 1_048_577]),
+            1 => rng.number(),
+            _ => rng.range(1, 1_048_576) as u64,
+        };
+        let start = match rng.below(4) {
+            0 => 0,
+            1 => rng.number(),
+            2 => size.wrapping_neg().wrapping_add(rng.below(3) as u64).wrapping_sub(1),
+            _ => rng.below(5_000_000) as u64,
+        };
+        let memory = match rng.below(4) {
+            0 => rng.number(),
+            _ => start.wrapping_add(size).wrapping_add(rng.below(3) as u64).wrapping_sub(1),
+        };
+        let session = [rng.word(), rng.word(), rng.word(), rng.word()];
+        let tag = rng.tag();
+        harness.check(configure_call(start, size, memory, session, tag));
+    }
+}

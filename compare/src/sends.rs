@@ -1,0 +1,34 @@
+//! Bodies and frame numbers for the sender.
+
+use crate::call::send_frame;
+use crate::harness::Harness;
+use crate::lines::body_length;
+use crate::rng::Rng;
+use second::sender;
+
+/// One frame of a body of any length, with any frame number and output.
+pub fn single(harness: &mut Harness, rng: &mut Rng) {
+    harness.kind("sender: a frame of a body");
+    let length = match rng.below(20) {
+        0 => rng.below(9),
+        1 if rng.once_in(40) => rng.range(65_520, 65_550),
+        _ => body_length(rng),
+    };
+    let count = if length >= 8 { sender::cut(length.min(65_533)).len() } else { 1 };
+    let k = match rng.below(12) {
+        0 => count as u64,
+        1 => count as u64 + 1,
+        2 => rng.number(),
+        3..=5 => count as u64 - 1,
+        _ => rng.below(count) as u64,
+    };
+    let room = match rng.below(12) {
+        0 => 126,
+        1 => rng.below(127),
+        2..=7 => 127,
+        _ => rng.range(127, 200),
+    };
+    let body = rng.bytes(length);
+    let out = rng.bytes(room);
+    harness.check(send_frame(body, k, out, [rng.word(), rng.word()]));
+}

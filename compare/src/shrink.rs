@@ -1,0 +1,326 @@
+//! Makes a failing call smaller for as long as it still fails.
+
+use crate::call::{Call, Kind};
+use second::cbor::{self, Value};
+use second::{base64, crc, sender};
+use std::time::{Duration, Instant};
+
+/// What is to become smaller: the bytes lent, then the bytes that are not 0, then the numbers.
+fn weight(call: &Call) -> (usize, usize, u128) {
+    let lengths = call.buffers.iter().map(Vec::len).sum();
+    let bytes = call.buffers.iter().flatten().map(|byte| *byte as usize).sum();
+    let numbers = call.numbers.iter().map(|number| *number as u128).sum::<u128>();
+    let words = call.words.iter().map(|word| *word as u128).sum::<u128>();
+    (lengths, bytes, numbers + words)
+}
+
+/// Smaller numbers than a number.
+fn smaller(number: u64) -> Vec<u64> {
+    let mut list = vec![0, 1, 8, 10, 32, 127, number / 2, number - number / 4, number.wrapping_sub(1)];
+    list.retain(|candidate| *candidate < number);
+    list
+}
+
+/// Bytes with a part taken out, for parts of ever smaller size.
+fn cuts(bytes: &[u8]) -> Vec<Vec<u8>> {
+    let mut list = Vec::new();
+    let mut size = bytes.len();
+    while size > 0 {
+        let step = size.max(bytes.len() / 400);
+        let mut at = 0;
+        while at + size <= bytes.len() {
+            list.push([&bytes[..at], &bytes[at + size..]].concat());
+            at += step;
+        }
+        size /= 2;
+    }
+    list
+}
+
+/// Bytes with a part made simpler, for parts of ever smaller size.
+fn plainer(bytes: &[u8]) -> Vec<Vec<u8>> {
+    let mut list = Vec::new();
+    let mut size = bytes.len();
+    while size > 0 {
+        let step = size.max(bytes.len() / 400);
+        let mut at = 0;
+        while at + size <= bytes.len() {
+            if bytes[at..at + size].iter().any(|byte| *byte != 0) {
+                let mut plain = bytes.to_vec();
+                plain[at..at + size].fill(0);
+                list.push(plain);
+            }
+            at += step;
+        }
+        size /= 2;
+    }
+    if bytes.len() <= 200 {
+        for at in 0..bytes.len() {
+            for byte in [bytes[at] / 2, bytes[at].wrapping_sub(1)] {
+                if byte < bytes[at] {
+                    let mut plain = bytes.to_vec();
+                    plain[at] = byte;
+                    list.push(plain);
+                }
+            }
+        }
+    }
+    list
+}
+
+/// Smaller packets whose length field is right, also with a pair less in the map's head.
+fn packets(packet: &[u8]) -> Vec<Vec<u8>> {
+    let mut list = Vec::new();
+    if packet.len() < 8 {
+        return list;
+    }
+    let (header, payload) = packet.split_at(8);
+    for payload in cuts(payload) {
+        let mut smaller = [header, &payload].concat();
+        smaller[2..4].copy_from_slice(&(payload.len() as u16).to_be_bytes());
+        if payload.first().is_some_and(|head| (0xA1..=0xB7).contains(head)) {
+            let mut fewer = smaller.clone();
+            fewer[8] -= 1;
+            list.push(fewer);
+        }
+        list.push(smaller);
+    }
+    for payload in plainer(payload) {
+        list.push([header, &payload].concat());
+    }
+    for payload in maps(payload) {
+        let mut smaller = [header, &payload].concat();
+        smaller[2..4].copy_from_slice(&(payload.len() as u16).to_be_bytes());
+        list.push(smaller);
+    }
+    list
+}
+
+/// A key and its value, the value's bytes or text by themselves.
+type Pair = (Vec<u8>, Value, Vec<u8>);
+
+/// Writes pairs as a map, with the shortest heads.
+fn write_map(pairs: &[Pair]) -> Vec<u8> {
+    let mut map = Vec::new();
+    cbor::write_head(&mut map, cbor::MAP, pairs.len() as u64);
+    for (key, value, string) in pairs {
+        cbor::write_string(&mut map, cbor::TEXT, key);
+        match value {
+            Value::Unsigned(number) => cbor::write_head(&mut map, cbor::UNSIGNED, *number),
+            Value::Negative => map.push(0x20),
+            Value::Bytes(_) => cbor::write_string(&mut map, cbor::BYTES, string),
+            Value::Text(_) => cbor::write_string(&mut map, cbor::TEXT, string),
+            Value::Bool(false) => map.push(0xF4),
+            Value::Bool(true) => map.push(0xF5),
+            Value::Null => map.push(0xF6),
+        }
+    }
+    map
+}
+
+/// Smaller maps than a well-formed one: a pair less, a shorter string, a smaller number, all heads shortest.
+fn maps(payload: &[u8]) -> Vec<Vec<u8>> {
+    let Ok(map) = cbor::read_map(payload) else {
+        return Vec::new();
+    };
+    let pairs: Vec<Pair> = map
+        .pairs()
+        .iter()
+        .map(|(key, value)| {
+            let string = match value {
+                Value::Bytes(place) | Value::Text(place) => payload[place.clone()].to_vec(),
+                _ => Vec::new(),
+            };
+            (payload[key.clone()].to_vec(), value.clone(), string)
+        })
+        .collect();
+    let mut list = vec![write_map(&pairs)];
+    if pairs.len() > 100 {
+        list.push(write_map(&pairs[..pairs.len() / 2]));
+        list.push(write_map(&pairs[pairs.len() / 2..]));
+        return list;
+    }
+    for at in 0..pairs.len() {
+        let mut fewer = pairs.clone();
+        fewer.remove(at);
+        list.push(write_map(&fewer));
+        let mut with = |key: Option<usize>, number: Option<u64>, string: Option<usize>| {
+            let mut smaller = pairs.clone();
+            if let Some(length) = key {
+                smaller[at].0.truncate(length);
+            }
+            if let Some(number) = number {
+                smaller[at].1 = Value::Unsigned(number);
+            }
+            if let Some(length) = string {
+                smaller[at].2.truncate(length);
+            }
+            list.push(write_map(&smaller));
+        };
+        let (key, value, string) = &pairs[at];
+        smaller(key.len() as u64).into_iter().for_each(|length| with(Some(length as usize), None, None));
+        smaller(string.len() as u64).into_iter().for_each(|length| with(None, None, Some(length as usize)));
+        if let Value::Unsigned(number) = value {
+            smaller(*number).into_iter().for_each(|number| with(None, Some(number), None));
+        }
+    }
+    list
+}
+
+/// Smaller lines whose text is well formed, also with the right total and CRC of a shorter body.
+fn lines(line: &[u8]) -> Vec<Vec<u8>> {
+    let mut list = Vec::new();
+    if line.len() < 3 {
+        return list;
+    }
+    let marker = [line[0], line[1]];
+    let Some(raw) = base64::decode(&line[2..line.len() - 1]) else {
+        return list;
+    };
+    for raw in cuts(&raw).into_iter().chain(plainer(&raw)) {
+        list.push(sender::line(marker, &raw));
+    }
+    if raw.len() > 4 && marker == [6, 9] {
+        let body = &raw[2..raw.len() - 2];
+        for body in cuts(body).into_iter().chain(plainer(body)) {
+            let total = (body.len() as u16 + 2).to_be_bytes();
+            let crc = crc::crc16(&body).to_be_bytes();
+            list.push(sender::line(marker, &[&total[..], &body, &crc].concat()));
+        }
+    }
+    list
+}
+
+/// A partial frame that completes a packet, with a smaller or plainer packet and its right CRC.
+fn completing(call: &Call) -> Vec<Call> {
+    let mut list = Vec::new();
+    let (line, packet) = (&call.buffers[0], &call.buffers[1]);
+    let (total, come) = (call.words[1] as usize, call.words[2] as usize);
+    let text = line.get(2..line.len().max(3) - 1).unwrap_or(&[]);
+    let Some(raw) = base64::decode(text) else {
+        return list;
+    };
+    if line[0] != 4 || come + raw.len() != total || raw.len() < 3 || packet.len() + 2 < total {
+        return list;
+    }
+    let body = raw.len() - 2;
+    let mut with = |before: Vec<u8>, carried: &[u8]| {
+        let mut smaller = call.clone();
+        let crc = crc::extend(crc::crc16(&before), carried).to_be_bytes();
+        smaller.words[1] = (before.len() + carried.len() + 2) as u32;
+        smaller.words[2] = before.len() as u32;
+        smaller.buffers[0] = sender::line([4, 20], &[carried, &crc].concat());
+        smaller.buffers[1] = [&before[..], &packet[come..]].concat();
+        list.push(smaller);
+    };
+    for length in smaller(come as u64) {
+        with(packet[..length as usize].to_vec(), &raw[..body]);
+        with(vec![0; length as usize], &raw[..body]);
+    }
+    with(vec![0; come], &raw[..body]);
+    for length in smaller(body as u64) {
+        with(packet[..come].to_vec(), &raw[..length as usize]);
+    }
+    with(packet[..come].to_vec(), &vec![0; body]);
+    list
+}
+
+/// A request made smaller in two places at once: packet and reply buffer, or session tag and the same tag in the packet.
+fn together(call: &Call) -> Vec<Call> {
+    let mut list = Vec::new();
+    let (tag, packet, reply) = (&call.buffers[1], &call.buffers[2], &call.buffers[3]);
+    if packet.len() >= 8 {
+        for payload in maps(&packet[8..]) {
+            let mut packet = [&packet[..8], &payload].concat();
+            packet[2..4].copy_from_slice(&(payload.len() as u16).to_be_bytes());
+            let saved = call.buffers[2].len().saturating_sub(packet.len());
+            let mut smaller = call.clone();
+            smaller.buffers[3] = reply[..reply.len().saturating_sub(saved).max(32).min(reply.len())].to_vec();
+            smaller.buffers[2] = packet;
+            list.push(smaller);
+        }
+    }
+    if let Some(at) = packet.windows(32).position(|part| part == tag) {
+        let mut smaller = call.clone();
+        smaller.buffers[1] = vec![0; 32];
+        smaller.buffers[2][at..at + 32].fill(0);
+        list.push(smaller);
+    }
+    list
+}
+
+/// Calls that are somewhat smaller than a call.
+fn candidates(call: &Call) -> Vec<Call> {
+    let mut list = match call.kind {
+        Kind::TakeLine => completing(call),
+        Kind::Handle => together(call),
+        _ => Vec::new(),
+    };
+    let mut with_buffer = |i: usize, buffer: Vec<u8>| {
+        let mut smaller = call.clone();
+        smaller.buffers[i] = buffer;
+        list.push(smaller);
+    };
+    for (i, buffer) in call.buffers.iter().enumerate() {
+        match (call.kind, i) {
+            (Kind::TakeLine, 0) => lines(buffer).into_iter().for_each(|line| with_buffer(i, line)),
+            (Kind::Handle, 2) | (Kind::ReadReply, 0) => {
+                packets(buffer).into_iter().for_each(|packet| with_buffer(i, packet))
+            }
+            _ => {}
+        }
+        if !call.kind.is_session_tag(i) {
+            cuts(buffer).into_iter().for_each(|cut| with_buffer(i, cut));
+        }
+        plainer(buffer).into_iter().for_each(|plain| with_buffer(i, plain));
+    }
+    if call.kind == Kind::Handle {
+        // A smaller memory with its slot.
+        let (start, size, memory) = (call.numbers[0] as usize, call.numbers[1] as usize, &call.buffers[0]);
+        if start.checked_add(size).is_some_and(|end| end <= memory.len()) {
+            with_buffer(0, memory[..start + size].to_vec());
+            for (start, size) in [(0, size), (0, size / 2), (0, size - size.min(1)), (start / 2, size)] {
+                let mut smaller = call.clone();
+                smaller.numbers = vec![start as u64, size as u64];
+                smaller.buffers[0] = memory[..start + size].to_vec();
+                list.push(smaller);
+            }
+        }
+    }
+    for (i, number) in call.numbers.iter().enumerate() {
+        for number in smaller(*number) {
+            let mut smaller = call.clone();
+            smaller.numbers[i] = number;
+            list.push(smaller);
+        }
+    }
+    for (i, word) in call.words.iter().enumerate() {
+        for word in smaller(*word as u64) {
+            let mut smaller = call.clone();
+            smaller.words[i] = word as u32;
+            list.push(smaller);
+        }
+    }
+    list
+}
+
+/// The smallest failing call found within a time, and how many smaller ones were taken on the way.
+pub fn shrink(call: &Call, fails: impl Fn(&Call) -> bool) -> (Call, usize) {
+    let until = Instant::now() + Duration::from_secs(20);
+    let mut smallest = call.clone();
+    let mut steps = 0;
+    'again: loop {
+        let bound = weight(&smallest);
+        for candidate in candidates(&smallest) {
+            if Instant::now() > until {
+                return (smallest, steps);
+            }
+            if weight(&candidate) < bound && fails(&candidate) {
+                smallest = candidate;
+                steps += 1;
+                continue 'again;
+            }
+        }
+        return (smallest, steps);
+    }
+}

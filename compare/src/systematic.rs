@@ -1,0 +1,365 @@
+//! Inputs gone through one by one: every byte in every place where one byte decides.
+
+use crate::call::*;
+use crate::harness::Harness;
+use crate::rng::Rng;
+use second::sender;
+
+/// Every length of a line for each marker and ending; every character in each place of a group; every last group.
+fn lines(harness: &mut Harness, rng: &mut Rng) {
+    harness.kind("lines: every length, character and last group");
+    let open = [1, 200, 20, 0];
+    for length in 0..=200 {
+        for marker in [[6, 9], [4, 20], [6, 20], [4, 9], [0, 0]] {
+            for (text, last) in [(b'A', b'\n'), (b'A', b'\r'), (b'=', b'\n'), (b'\n', b'\n')] {
+                let mut line = vec![text; length];
+                for (at, byte) in marker.into_iter().enumerate().take(length) {
+                    line[at] = byte;
+                }
+                if let Some(byte) = line.last_mut() {
+                    *byte = last;
+                }
+                harness.check(take_line(open, line, rng.bytes(210), rng.word()));
+            }
+        }
+    }
+    for marker in [[6, 9], [4, 20]] {
+        for text in [&b"AAAA"[..], b"AGQ=", b"AA==", b"AGQAAAAA", b"AGQBAgMEBQYHCAk="] {
+            for at in 0..text.len() {
+                for character in 0..=255 {
+                    let mut line = [&marker, text, b"\n"].concat();
+                    line[2 + at] = character;
+                    harness.check(take_line(open, line, rng.bytes(200), rng.word()));
+                }
+            }
+        }
+    }
+    for byte in 0..=255 {
+        let line = |at: usize| {
+            let mut line = b"\x06\x09AGQA\n".to_vec();
+            line[at] = byte;
+            line
+        };
+        for at in [0, 1, 6] {
+            harness.check(take_line(open, line(at), rng.bytes(200), rng.word()));
+        }
+    }
+    let alphabet = b"ABCDEFGHIJKLMNOPQRSTUVWXYZabcdefghijklmnopqrstuvwxyz0123456789+/";
+    for first in alphabet {
+        for second in alphabet {
+            let line = [b"\x04\x14AAAA", &[*first, *second][..], b"==\n"].concat();
+            harness.check(take_line(open, line, rng.bytes(198), rng.word()));
+            let line = [b"\x04\x14A", &[*first, *second][..], b"=\n"].concat();
+            harness.check(take_line(open, line, rng.bytes(198), rng.word()));
+        }
+    }
+    // Every total in an initial frame, for buffers at the edge of its body.
+    for total in (0..=300).chain(65_500..=65_535).chain((300..65_500).step_by(997)) {
+        for raw in [0, 1, 2, 3, 10, 12, 93] {
+            let mut bytes = vec![7; raw];
+            for (at, byte) in (total as u16).to_be_bytes().into_iter().enumerate().take(raw) {
+                bytes[at] = byte;
+            }
+            for room in [0, 1, 2, 3] {
+                let room = (total as usize).saturating_sub(room);
+                let line = sender::line([6, 9], &bytes);
+                harness.check(take_line([1, 20, 19, 3], line, vec![0xEE; room], rng.word()));
+            }
+        }
+    }
+    // Every count of bytes come and of bytes in a partial frame for a small total.
+    for total in 8..=16 {
+        for come in 0..=17 {
+            for raw in 1..=18 {
+                for room in [total as usize - 3, total as usize - 2, 30] {
+                    let line = sender::line([4, 20], &vec![0; raw]);
+                    harness.check(take_line([1, total, come, 0], line, vec![0; room], rng.word()));
+                }
+            }
+        }
+    }
+}
+
+/// Every body length to 1200 with each frame number, and the lines back through the reader.
+fn sends(harness: &mut Harness, rng: &mut Rng) {
+    harness.kind("sender and reader: every body length to 1200");
+    for length in 0..=1200 {
+        let body = rng.bytes(length);
+        let count = if length < 8 { 0 } else { sender::cut(length).len() };
+        let mut reader = [0; 4];
+        let mut packet = rng.bytes(length + 1);
+        for k in 0..=count + 1 {
+            let out = rng.bytes(127);
+            let sent = harness.check(send_frame(body.clone(), k as u64, out, [rng.word(), rng.word()]));
+            if sent.returned == 0 {
+                let line = sent.buffers[1][..sent.words[0] as usize].to_vec();
+                let taken = harness.check(take_line(reader, line, packet, rng.word()));
+                reader = taken.words[..4].try_into().unwrap();
+                packet = taken.buffers.into_iter().nth(1).unwrap();
+            }
+        }
+        harness.check(send_frame(body, 0, vec![0; 126], [1, 2]));
+    }
+    harness.kind("sender and reader: the longest bodies, whole");
+    for length in [65_533, 65_532, 65_442, 65_441] {
+        let body = rng.bytes(length);
+        let mut reader = [0; 4];
+        let mut packet = rng.bytes(length);
+        for k in 0..706 {
+            let sent = harness.check(send_frame(body.clone(), k, vec![0; 127], [0, 0]));
+            if sent.returned != 0 {
+                break;
+            }
+            let line = sent.buffers[1][..sent.words[0] as usize].to_vec();
+            let taken = harness.check(take_line(reader, line, packet, 5));
+            reader = taken.words[..4].try_into().unwrap();
+            packet = taken.buffers.into_iter().nth(1).unwrap();
+        }
+        assert!(packet == body, "the line gives the body back");
+    }
+}
+
+/// A packet of an op, a group, a command and a payload.
+fn packet(op: u8, group: u8, command: u8, payload: &[u8]) -> Vec<u8> {
+    let [high, low] = (payload.len() as u16).to_be_bytes();
+    [&[op, 0, high, low, 0, group, 0x42, command], payload].concat()
+}
+
+/// A request on a small slot with an open session.
+fn ask(harness: &mut Harness, rng: &mut Rng, packet: Vec<u8>) {
+    let tag = [9; 32];
+    harness.check(handle(
+        rng.bytes(40),
+        5,
+        30,
+        [1, 20, 4, 1],
+        tag,
+        packet,
+        rng.bytes(48),
+        [rng.word(), rng.word()],
+    ));
+}
+
+/// Every initial byte as a map's head, a key's head and each key's value, with every number of bytes after it.
+fn maps(harness: &mut Harness, rng: &mut Rng) {
+    harness.kind("maps: every initial byte in every place");
+    let keys: [&[u8]; 11] =
+        [b"z", b"d", b"data", b"off", b"len", b"image", b"sha", b"upgrade", b"slot", b"rc", b"r"];
+    let commands = [(0, 0), (0, 5), (1, 1), (1, 5)];
+    for initial in 0..=255u8 {
+        for after in 0..=9 {
+            for fill in [0x00, 0x01, 0xFF] {
+                let tail = vec![fill; after];
+                // The map's head itself.
+                let payload = [&[initial][..], &tail].concat();
+                for (group, command) in commands {
+                    ask(harness, rng, packet(2, group, command, &payload));
+                }
+                harness.check(read_reply(packet(3, 1, 1, &payload), [7; 12]));
+                // A key's head.
+                let payload = [&[0xA1, initial][..], &tail].concat();
+                ask(harness, rng, packet(2, 0, 5, &payload));
+                harness.check(read_reply(packet(3, 1, 1, &payload), [7; 12]));
+            }
+        }
+        for key in keys {
+            for after in [0, 1, 2, 4, 8, 20] {
+                let fill = rng.pick(&[0x00, 0x01, 0x20]);
+                let head = [&[0x60 + key.len() as u8], key, &[initial][..], &vec![fill; after]].concat();
+                // The value at the map's end, and a full upload with it in front.
+                let payload = [&[0xA1], &head[..]].concat();
+                for (group, command) in commands {
+                    ask(harness, rng, packet(2, group, command, &payload));
+                }
+                harness.check(read_reply(packet(1, 0, 0, &payload), [7; 12]));
+                let rest: &[u8] = if key == b"data" { b"" } else { b"\x64data\x41\x07" };
+                let off: &[u8] = if key == b"off" { b"" } else { b"\x63off\x04" };
+                let count = 0xA1 + !rest.is_empty() as u8 + !off.is_empty() as u8;
+                let payload = [&[count], &head[..], rest, off].concat();
+                ask(harness, rng, packet(2, 1, 1, &payload));
+            }
+        }
+    }
+    harness.kind("headers: every op, group, command and length");
+    for op in 0..=255 {
+        for (group, command) in commands {
+            ask(harness, rng, packet(op, group, command, &[0xA0]));
+        }
+        harness.check(read_reply(packet(op, 1, 1, &[0xA0]), [7; 12]));
+    }
+    for group in 0..=255 {
+        for command in 0..=255 {
+            let op = rng.pick(&[0, 2]);
+            ask(harness, rng, packet(op, group, command, &[0xA0]));
+        }
+    }
+    for length in 0..=300u16 {
+        for real in [0, 1, 2, 8, 40] {
+            let mut packet = packet(2, 0, 5, &vec![0xA0; real]);
+            packet[2..4].copy_from_slice(&length.to_be_bytes());
+            ask(harness, rng, packet.clone());
+            packet[0] = 1;
+            harness.check(read_reply(packet, [7; 12]));
+        }
+    }
+    harness.kind("packets about the longest");
+    for length in 65_520..=65_543usize {
+        for op in [1, 2] {
+            for (group, command) in [(0, 0), (0, 5), (9, 9)] {
+                // One pair whose text fills the packet.
+                let text = length - 8 - 6;
+                let key = if op == 1 { b'r' } else { b'd' };
+                let [high, low] = (text as u16).to_be_bytes();
+                let payload = [&[0xA1, 0x61, key, 0x79, high, low][..], &vec![b'x'; text]].concat();
+                let packet = packet(op, group, command, &payload);
+                if op == 1 {
+                    harness.check(read_reply(packet, [7; 12]));
+                } else {
+                    for room in [32, length - 1, length, length + 3] {
+                        let call =
+                            handle(vec![0; 4], 0, 4, [0; 4], [0; 32], packet.clone(), vec![0; room], [5, 5]);
+                        harness.check(call);
+                    }
+                }
+            }
+        }
+    }
+    // As many pairs as a packet holds.
+    for count in [23u16, 24, 255, 256, 20_000, 21_840, 21_841] {
+        let [high, low] = count.to_be_bytes();
+        let payload = [&[0xB9, high, low][..], &b"\x61x\xF6".repeat(count as usize)].concat();
+        if payload.len() <= 65_535 {
+            ask(harness, rng, packet(2, 0, 5, &payload));
+            harness.check(read_reply(packet(1, 0, 0, &payload), [7; 12]));
+        }
+    }
+}
+
+/// Every small session and region, with the requests that tell them apart.
+fn sessions(harness: &mut Harness, rng: &mut Rng) {
+    harness.kind("uploads: every small slot, session, offset and data");
+    let tags = [[0; 32], [9; 32]];
+    for size in 0..=4u64 {
+        for length in 0..=5u32 {
+            for place in 0..=5u32 {
+                for tagged in [0, 1, 7] {
+                    for open in [0, 1, 0x8000_0000] {
+                        for off in 0..=5u64 {
+                            for data in 0..=3usize {
+                                let bytes = vec![7; data];
+                                let mut payload = vec![0xA2, 0x64, b'd', b'a', b't', b'a', 0x40 + data as u8];
+                                payload.extend_from_slice(&bytes);
+                                payload.extend_from_slice(&[0x63, b'o', b'f', b'f', off as u8]);
+                                if off == 0 {
+                                    payload[0] += 1;
+                                    payload.extend_from_slice(&[0x63, b'l', b'e', b'n', rng.below(6) as u8]);
+                                    if rng.once_in(2) {
+                                        payload[0] += 1;
+                                        payload.extend_from_slice(b"\x63sha\x58\x20");
+                                        payload.extend_from_slice(&rng.pick(&tags));
+                                    }
+                                }
+                                let session = [open, length, place, tagged];
+                                let (tag, reply) = (rng.pick(&tags), rng.bytes(33));
+                                let memory = rng.bytes(6);
+                                let packet = packet(2, 1, 1, &payload);
+                                harness.check(handle(memory, 1, size, session, tag, packet, reply, [5, 5]));
+                            }
+                        }
+                    }
+                }
+            }
+        }
+    }
+    harness.kind("slots: every small region, and the largest");
+    for memory in 0..=6u64 {
+        for start in (0..=7).chain([u64::MAX - 1, u64::MAX]) {
+            for size in (0..=7).chain([1_048_576, 1_048_577, u64::MAX - 2, u64::MAX]) {
+                harness.check(configure(start, size, memory, [3; 4], [3; 32]));
+                for room in [31, 32] {
+                    let erase = packet(2, 1, 5, &[]);
+                    let memory = rng.bytes(memory as usize);
+                    harness.check(handle(
+                        memory,
+                        start,
+                        size,
+                        [0; 4],
+                        [0; 32],
+                        erase,
+                        rng.bytes(room),
+                        [5, 5],
+                    ));
+                }
+            }
+        }
+    }
+    let mut memory = rng.bytes(1_048_580);
+    let mut session = [0; 4];
+    for (size, packet) in [
+        (1_048_577, packet(2, 1, 5, &[])),
+        (1_048_576, packet(2, 1, 5, &[])),
+        (1_048_576, packet(2, 1, 1, b"\xA3\x64data\x41\x07\x63off\x00\x63len\x1A\x00\x10\x00\x01")),
+        (1_048_576, packet(2, 1, 1, b"\xA3\x64data\x41\x07\x63off\x00\x63len\x1A\x00\x10\x00\x00")),
+        (1_048_576, packet(2, 1, 1, b"\xA2\x64data\x41\x07\x63off\x01")),
+    ] {
+        let outcome = harness.check(handle(memory, 3, size, session, [0; 32], packet, vec![0; 32], [5, 5]));
+        session = outcome.words[..4].try_into().unwrap();
+        memory = outcome.buffers.into_iter().next().unwrap();
+    }
+    // The last two bytes of the largest slot, then one too many.
+    session = [1, 1_048_576, 1_048_574, 0];
+    for data in [3, 2, 1] {
+        let payload =
+            [b"\xA2\x64data", &[0x40 + data][..], &vec![7; data as usize], b"\x63off\x1A\x00\x0F\xFF\xFE"]
+                .concat();
+        let packet = packet(2, 1, 1, &payload);
+        let outcome =
+            harness.check(handle(memory, 3, 1_048_576, session, [0; 32], packet, vec![0; 32], [5, 5]));
+        session = outcome.words[..4].try_into().unwrap();
+        memory = outcome.buffers.into_iter().next().unwrap();
+    }
+}
+
+/// Every short output for the writers, and the longest packets.
+fn writers(harness: &mut Harness, rng: &mut Rng) {
+    harness.kind("writers: every short output, and the longest packets");
+    for room in 0..=80 {
+        for length in [0, 1, 5, 23, 24, 25, 40] {
+            harness.check(write_echo(9, rng.bytes(length), rng.bytes(room), rng.word()));
+            for off in [0, 1, 23, 24, 255, 256, 65_535, 65_536, 4_294_967_295, 4_294_967_296] {
+                for tag in [0, 32] {
+                    let (data, tag) = (rng.bytes(length), rng.bytes(tag));
+                    harness.check(write_upload(
+                        9,
+                        data,
+                        off,
+                        length as u64,
+                        tag,
+                        rng.bytes(room),
+                        rng.word(),
+                    ));
+                }
+            }
+        }
+        harness.check(write_plain(Kind::WriteReset, room as u8, rng.bytes(room), rng.word()));
+        harness.check(write_plain(Kind::WriteErase, room as u8, rng.bytes(room), rng.word()));
+    }
+    for length in (65_440..=65_540).chain([70_000]) {
+        for room in [65_532, 65_533, 70_100] {
+            harness.check(write_echo(9, vec![b'x'; length], vec![0; room], rng.word()));
+            let off = rng.pick(&[0, 0, 1, 4_294_967_295]);
+            let tag = if rng.once_in(2) { vec![] } else { vec![3; 32] };
+            let whole = rng.pick(&[length as u64, 4_294_967_295]);
+            harness.check(write_upload(9, vec![5; length], off, whole, tag, vec![0; room], rng.word()));
+        }
+    }
+}
+
+/// Compares all of them.
+pub fn run(harness: &mut Harness, rng: &mut Rng) {
+    lines(harness, rng);
+    sends(harness, rng);
+    maps(harness, rng);
+    sessions(harness, rng);
+    writers(harness, rng);
+}

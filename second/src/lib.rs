@@ -1,0 +1,16 @@
+//! The update port of a rack controller, both ends, written from the paper a second time in plain Rust.
+//!
+//! It shares nothing with the proved program but the paper, and is there to be compared with it. The calls in
+//! [`port`] have the parameters of the C header, so that answers, records and every lent byte can be compared.
+
+pub mod base64;
+pub mod cbor;
+pub mod controller;
+pub mod crc;
+pub mod host;
+pub mod packet;
+pub mod port;
+pub mod reader;
+pub mod refusal;
+pub mod sender;
+pub mod slot;

@@ -1,0 +1,111 @@
+//! The calls with the C header's parameters: each returns 0 or the number of a refusal, and fills its out-parameters at 0 only.
+
+use crate::reader::{self, Taken};
+use crate::refusal::Refusal;
+use crate::{controller, host, sender, slot};
+
+/// The number that a call returns, once its out-parameters are filled by `fill` where it was not refused.
+fn number<T>(answer: Result<T, Refusal>, fill: impl FnOnce(T)) -> u32 {
+    match answer {
+        Ok(value) => {
+            fill(value);
+            0
+        }
+        Err(refusal) => refusal.number(),
+    }
+}
+
+/// Takes one line; `body` is 0 where the packet wants more, else the body's length.
+pub fn take_line(record: &mut [u32; 4], line: &[u8], packet: &mut [u8], body: &mut u32) -> u32 {
+    number(reader::take_line(record, line, packet), |taken| {
+        *body = match taken {
+            Taken::More => 0,
+            Taken::Complete(length) => length as u32,
+        }
+    })
+}
+
+/// Writes frame number k of a body; `sent` is the line's length and the frame count.
+pub fn send_frame(body: &[u8], k: usize, out: &mut [u8], sent: &mut [u32; 2]) -> u32 {
+    number(sender::send_frame(body, k, out), |(length, count)| *sent = [length as u32, count as u32])
+}
+
+/// Fixes a slot and closes the session, or refuses 1.
+pub fn configure(start: usize, size: usize, memory: usize, record: &mut [u32; 4], tag: &mut [u8; 32]) -> u32 {
+    if !slot::possible_region(start, size, memory) {
+        return Refusal::Impossible.number();
+    }
+    slot::store(None, record, tag);
+    0
+}
+
+/// Takes one request; `answer` is the reply's length, and 1 where a reset is asked.
+#[allow(clippy::too_many_arguments)]
+pub fn handle(
+    memory: &mut [u8],
+    start: usize,
+    size: usize,
+    record: &mut [u32; 4],
+    tag: &mut [u8; 32],
+    packet: &[u8],
+    reply: &mut [u8],
+    answer: &mut [u32; 2],
+) -> u32 {
+    let handled = controller::handle(memory, start, size, record, tag, packet, reply);
+    number(handled, |(length, reset)| *answer = [length as u32, reset as u32])
+}
+
+/// Writes an echo of a text.
+pub fn write_echo(sequence: u8, text: &[u8], out: &mut [u8], packet_len: &mut u32) -> u32 {
+    number(host::write_echo(sequence, text, out), |length| *packet_len = length as u32)
+}
+
+/// Writes a reset.
+pub fn write_reset(sequence: u8, out: &mut [u8], packet_len: &mut u32) -> u32 {
+    number(host::write_reset(sequence, out), |length| *packet_len = length as u32)
+}
+
+/// Writes an erase of the slot.
+pub fn write_erase(sequence: u8, out: &mut [u8], packet_len: &mut u32) -> u32 {
+    number(host::write_erase(sequence, out), |length| *packet_len = length as u32)
+}
+
+/// Writes an upload of data at an offset; an empty tag is none.
+pub fn write_upload(
+    sequence: u8,
+    data: &[u8],
+    off: u64,
+    length: u64,
+    tag: &[u8],
+    out: &mut [u8],
+    packet_len: &mut u32,
+) -> u32 {
+    let written = host::write_upload(sequence, data, off, length, tag, out);
+    number(written, |length| *packet_len = length as u32)
+}
+
+/// Reads a packet as a reply, to the header's twelve numbers.
+pub fn read_reply(packet: &[u8], reply: &mut [u32; 12]) -> u32 {
+    number(host::read_reply(packet), |read| {
+        let text = read.text.clone().unwrap_or(0..0);
+        *reply = [
+            read.header.op as u32,
+            read.header.flags as u32,
+            read.header.length as u32,
+            read.header.group as u32,
+            read.header.sequence as u32,
+            read.header.command as u32,
+            read.rc,
+            read.off.is_some() as u32,
+            read.off.unwrap_or(0),
+            read.text.is_some() as u32,
+            text.start as u32,
+            text.len() as u32,
+        ];
+    })
+}
+
+/// The sequence number after this one.
+pub fn next_sequence(sequence: u8) -> u8 {
+    host::next_sequence(sequence)
+}
