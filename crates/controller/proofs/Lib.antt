@@ -2,3 +2,4 @@ pub mod Tag
 pub mod Small
 pub mod Laws
 pub mod Calls
+pub mod Answered

@@ -1,11 +1,11 @@
 -- Any history of request calls: one memory, one slot, the record handed back after each call. What is shown of the memory at every point.
 -- Assumes nothing.
-use Prim.Native.Nat.{ℕ}
+use Prim.Native.Nat.{ℕ, _≤_}
 use mathlib.Core.Path.{_≡_}
 use mathlib.Core.Bool.{Bool, true, false, not}
 use mathlib.Core.List.{List, [], _∷_}
 use lib.Dec.{ltb}
-use lib.ListN.{length}
+use lib.ListN.{length, take}
 use Rattle.laws.specs.Choice.{pick}
 use Rattle.slot.specs.declared.Slot.{Slot}
 use Rattle.slot.specs.declared.Session.{Session}
@@ -14,9 +14,12 @@ use Rattle.slot.specs.Act.{State, Act}
 use Rattle.slot.specs.State.{stateOf}
 use Rattle.slot.specs.History.{History, Held, CutFrom, unbroken}
 use Rattle.smp.specs.declared.Reading.{Reading}
-use Rattle.smp.specs.Request.{readRequest}
-use Rattle.controller.specs.Doing.{actFor}
-use Rattle.controller.specs.Handle.{possible, handle}
+use Rattle.smp.specs.declared.Request.{Request}
+use Rattle.smp.specs.Packet.{headerIn}
+use Rattle.smp.specs.Request.{readRequest, isRequest}
+use Rattle.smp.specs.Reply.{replyBytes}
+use Rattle.controller.specs.Doing.{actFor, replyFor, asksReset}
+use Rattle.controller.specs.Handle.{replied, resetAsked, possible, handle}
 
 -- one call's packet and reply buffer
 pub record Call : Type 0 where
@@ -62,3 +65,13 @@ PacketUnbroken =
 -- what a row of calls keeps, from a closed session on: where the slot lies in the memory, there is a history of acts of which the demand holds
 abbrev pub Kept : Slot → List ℕ → List ℕ → Session → Type 0
 Kept slot m m′ s = regionOk slot (length m) ≡ true → (acts : List Act) × Held slot (stateOf m closed) acts (stateOf m′ s)
+
+-- "every request is answered": a request, with a possible slot and session and a reply buffer of 32 bytes or more, gets a reply, whose bytes are
+-- those of its reply's meaning, in the form that 01 gives it
+abbrev pub Answered : Type 0
+Answered =
+    (slot : Slot) (st : State) (p b : List ℕ) → possible slot st ≡ true → 32 ≤ length b → isRequest p ≡ true
+    → (r : Request)
+    × (readRequest p ≡ Reading.Is r)
+    × (handle slot st p b .says ≡ pick (asksReset r) (resetAsked (length (replyBytes (headerIn p) p (replyFor slot (st .session) p r) (length b)))) (replied (length (replyBytes (headerIn p) p (replyFor slot (st .session) p r) (length b)))))
+    × (take (length (replyBytes (headerIn p) p (replyFor slot (st .session) p r) (length b))) (handle slot st p b .reply) ≡ replyBytes (headerIn p) p (replyFor slot (st .session) p r) (length b))

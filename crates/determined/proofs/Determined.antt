@@ -9,7 +9,16 @@ use Rattle.reader.specs.declared.Answer.{Answer}
 use Rattle.reader.specs.Reader as reading
 use Rattle.sender.specs.declared.Sent.{Sent}
 use Rattle.sender.specs.Sender as sending
-use Rattle.determined.specs.Determined.{Determines, LineDetermined, FrameDetermined}
+use Rattle.slot.specs.declared.Configured.{Configured}
+use Rattle.slot.specs.Session as slots
+use Rattle.controller.specs.declared.Handled.{Handled}
+use Rattle.controller.specs.declared.Answer as handling-answer
+use Rattle.controller.specs.Handle as handling
+use Rattle.host.specs.declared.Written.{Written}
+use Rattle.host.specs.Write as writing
+use Rattle.host.specs.declared.Heard.{Heard}
+use Rattle.host.specs.Read as hearing
+use Rattle.determined.specs.Determined.{Determines, LineDetermined, FrameDetermined, ConfiguredDetermined, HandledDetermined, WrittenDetermined, HeardDetermined}
 
 -- what leads back determines
 pub by-return : {A O : Type 0} (f : A → O) (back : O → A) → ((a : A) → back (f a) ≡ a) → Determines f
@@ -46,3 +55,57 @@ frame-determined =
     by-return (λ x. sending.outcome (x .0) (x .1))
     (λ o. (untold (o .says), o .buffer))
     (λ x. ap {A = Sent} {B = Sent × List ℕ} (λ s. (s, x .1)) (untold-told (x .0)))
+
+-- what configuring gave, from what it said
+abbrev unready : slots.Said → Configured
+unready (slots.ready slot) = Configured.Ready slot
+unready (slots.refused n) = Configured.Refused (refusalOf n)
+
+pub configured-determined : ConfiguredDetermined
+configured-determined = by-return slots.said unready back
+  where
+    back : (c : Configured) → unready (slots.said c) ≡ c
+    back (Configured.Ready slot) = refl
+    back (Configured.Refused r) = ap Configured.Refused (number-back r)
+
+-- what the request call gave, from what it said
+abbrev unhandled : handling.Said → handling-answer.Answer
+unhandled (handling.replied n) = handling-answer.Answer.Replied n
+unhandled (handling.resetAsked n) = handling-answer.Answer.ResetAsked n
+unhandled (handling.refused n) = handling-answer.Answer.Refused (refusalOf n)
+
+unhandled-said : (a : handling-answer.Answer) → unhandled (handling.said a) ≡ a
+unhandled-said (handling-answer.Answer.Replied n) = refl
+unhandled-said (handling-answer.Answer.ResetAsked n) = refl
+unhandled-said (handling-answer.Answer.Refused r) = ap handling-answer.Answer.Refused (number-back r)
+
+pub handled-determined : HandledDetermined
+handled-determined =
+    by-return (λ x. handling.outcome (x .0) (x .1) (x .2))
+    (λ o. (record { answer = unhandled (o .says); session = o .state .session }, o .state .memory, o .reply))
+    (λ x. ap {A = handling-answer.Answer} {B = Handled × List ℕ × List ℕ} (λ a. (record { answer = a; session = x .0 .session }, x .1, x .2)) (unhandled-said (x .0 .answer)))
+
+-- what a writer gave, from what it said
+abbrev unwritten : writing.Told → Written
+unwritten (writing.packet n) = Written.Packet n
+unwritten (writing.refused n) = Written.Refused (refusalOf n)
+
+unwritten-told : (w : Written) → unwritten (writing.told w) ≡ w
+unwritten-told (Written.Packet n) = refl
+unwritten-told (Written.Refused r) = ap Written.Refused (number-back r)
+
+pub written-determined : WrittenDetermined
+written-determined =
+    by-return (λ x. writing.outcome (x .0) (x .1)) (λ o. (unwritten (o .says), o .buffer)) (λ x. ap {A = Written} {B = Written × List ℕ} (λ w. (w, x .1)) (unwritten-told (x .0)))
+
+-- what the reply reader gave, from what it said
+abbrev unheard : hearing.Said → Heard
+unheard (hearing.reply r) = Heard.Reply r
+unheard (hearing.refused n) = Heard.Refused (refusalOf n)
+
+pub heard-determined : HeardDetermined
+heard-determined = by-return hearing.said unheard back
+  where
+    back : (h : Heard) → unheard (hearing.said h) ≡ h
+    back (Heard.Reply r) = refl
+    back (Heard.Refused r) = ap Heard.Refused (number-back r)

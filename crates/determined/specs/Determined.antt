@@ -1,6 +1,7 @@
 -- "Each public call's promise determines the answer and every lent byte afterwards": any two outcomes that a promise allows are equal.
 -- A promise is an equation, `outcome .. ≡ definition of the inputs`, so this says of each call that what it gives and leaves, taken together,
--- is read off the outcome in one way only.
+-- is read off the outcome in one way only. (The calls of the C interface promise the record of all that they return and leave itself, so nothing
+-- is left to show of them.)
 -- Assumes nothing.
 use Prim.Native.Nat.{ℕ}
 use mathlib.Core.Path.{_≡_}
@@ -9,6 +10,14 @@ use Rattle.reader.specs.declared.Taken.{Taken}
 use Rattle.reader.specs.Reader as reading
 use Rattle.sender.specs.declared.Sent.{Sent}
 use Rattle.sender.specs.Sender as sending
+use Rattle.slot.specs.declared.Configured.{Configured}
+use Rattle.slot.specs.Session as slots
+use Rattle.controller.specs.declared.Handled.{Handled}
+use Rattle.controller.specs.Handle as handling
+use Rattle.host.specs.declared.Written.{Written}
+use Rattle.host.specs.Write as writing
+use Rattle.host.specs.declared.Heard.{Heard}
+use Rattle.host.specs.Read as hearing
 
 -- a promise `f a ≡ o` determines a
 abbrev pub Determines : {A O : Type 0} → (A → O) → Type 0
@@ -21,3 +30,19 @@ LineDetermined = Determines {A = Taken × List ℕ} {O = reading.Outcome} (λ x.
 -- send_frame: the answer, and the output
 abbrev pub FrameDetermined : Type 0
 FrameDetermined = Determines {A = Sent × List ℕ} {O = sending.Outcome} (λ x. sending.outcome (x .0) (x .1))
+
+-- configure: the answer
+abbrev pub ConfiguredDetermined : Type 0
+ConfiguredDetermined = Determines {A = Configured} {O = slots.Said} slots.said
+
+-- handle_packet: the answer with the session record, the memory and the reply buffer
+abbrev pub HandledDetermined : Type 0
+HandledDetermined = Determines {A = Handled × List ℕ × List ℕ} {O = handling.Outcome} (λ x. handling.outcome (x .0) (x .1) (x .2))
+
+-- the request writers: the answer, and the output
+abbrev pub WrittenDetermined : Type 0
+WrittenDetermined = Determines {A = Written × List ℕ} {O = writing.Outcome} (λ x. writing.outcome (x .0) (x .1))
+
+-- read_reply: the answer
+abbrev pub HeardDetermined : Type 0
+HeardDetermined = Determines {A = Heard} {O = hearing.Said} hearing.said

@@ -3,7 +3,7 @@
 -- Assumes nothing.
 use Prim.Native.Nat.{ℕ, _+_, _%_}
 use mathlib.Core.Bool.{Bool, not}
-use mathlib.Core.List.{List, [], _++_}
+use mathlib.Core.List.{List, _++_}
 use lib.Dec.{ltb, eqb}
 use lib.ListN.{length}
 use Rattle.laws.specs.Choice.{pick, both}
@@ -40,10 +40,6 @@ firstMap x size tag =
     (mapOf 4
     ++ (textOf nameData
     ++ (bytesOf x ++ (textOf nameLen ++ (unsigned size ++ (textOf nameOff ++ (unsigned 0 ++ (textOf nameSha ++ bytesOf tag))))))))
-
--- an upload request's map
-unfoldable pub uploadMap : List ℕ → ℕ → ℕ → List ℕ → List ℕ
-uploadMap x off size tag = pick (eqb off 0) (firstMap x size tag) (laterMap x off)
 
 -- what a writer says, in the paper's terms: a packet of so many bytes, or the refusal of this number
 pub data Told : Type 0 where
