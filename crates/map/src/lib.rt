@@ -8,8 +8,8 @@ ghost use lib.ListN.{length, take, drop};
 ghost use Rattle.cbor.specs.Read.{itemAt};
 ghost use Rattle.laws.specs.Bytes.{same};
 ghost use Rattle.map.specs.Keys.{keyOf, typeOf, typeFor};
-ghost use Rattle.map.specs.Walk.{nothing, fieldAt, withField, isThere, listed, pairValue, pairAt, mapFrom};
-ghost use Rattle.map.specs.Steps.{secondName, enteredKnown};
+ghost use Rattle.map.specs.Walk.{nothing, fieldAt, withField, isThere, listed, mapFrom};
+ghost use Rattle.map.specs.Steps.{secondName, readValue, readAt};
 
 // Whose map it is: what differs is which keys are known.
 pub enum Kind {
@@ -55,7 +55,13 @@ pub struct Fields {
     pub rc: Field,
 }
 
-// One pair of a map, read: the place after it and the fields so far.
+// One pair of a map as it stands: its key, its value and the place after it.
+pub enum Pair {
+    Is { key: Key, value: Value, next: usize },
+    Malformed,
+}
+
+// One pair of a map, entered: the place after it and the fields so far. The definitions speak of it.
 pub enum Paired {
     Next { at: usize, fields: Fields },
     Malformed,
@@ -342,47 +348,37 @@ fn with_field(k: Key, v: Field, f: Fields) -> Fields
     }
 }
 
-// A known key and its value: it comes for the first time, with its type.
-fn entered_known(k: Key, v: Value, f: Fields) -> Walked
-    ensures { λ r. ⌜ r ≡ enteredKnown k v f ⌝ }
-{
-    if is_there(k, f) {
-        return Walked::Malformed;
-    }
-    if type_of(v) == type_for(k) {
-        return Walked::Map(with_field(k, Field::Is(v), f));
-    }
-    Walked::Malformed
-}
-
-// A key and its value.
-fn entered(k: Key, v: Value, f: Fields) -> Walked
-    ensures { λ r. ⌜ r ≡ Rattle.map.specs.Walk.entered k v f ⌝ }
+// The fields take a key and its value: a known key comes for the first time, with its type.
+fn takes(k: Key, v: Value, f: Fields) -> bool
+    ensures { λ r. ⌜ r ≡ Rattle.map.specs.Steps.takes k v f ⌝ }
 {
     if is_listed(k) {
-        return entered_known(k, v, f);
+        if is_there(k, f) {
+            return false;
+        }
+        return type_of(v) == type_for(k);
     }
-    Walked::Map(f)
+    true
 }
 
 // The value at a place of s, under a key.
-fn pair_value(k: Key, f: Fields, s: &[u8], at: usize) -> Paired
-    ensures { λ r. ⌜ r ≡ pairValue k f (itemAt (now (s .entry)) at) ⌝ }
+fn pair_value(k: Key, s: &[u8], at: usize) -> Pair
+    ensures { λ r. ⌜ r ≡ readValue k (itemAt (now (s .entry)) at) ⌝ }
 {
     let item = cbor::item_at(s, at);
     let Item::Is { value, next } = item else {
-        return Paired::Malformed;
+        return Pair::Malformed;
     };
-    let walked = entered(k, value, f);
-    let Walked::Map(fields) = walked else {
-        return Paired::Malformed;
-    };
-    Paired::Next { at: next, fields }
+    Pair::Is {
+        key: k,
+        value,
+        next,
+    }
 }
 
 // The pair at a place of s.
-fn pair_at(kind: Kind, s: &[u8], at: usize, f: Fields) -> Paired
-    ensures { λ r. ⌜ r ≡ pairAt kind (now (s .entry)) at f ⌝ }
+fn pair_at(kind: Kind, s: &[u8], at: usize) -> Pair
+    ensures { λ r. ⌜ r ≡ readAt kind (now (s .entry)) at ⌝ }
 {
     let head = cbor::head_at(s, at);
     let Head::Is {
@@ -391,18 +387,18 @@ fn pair_at(kind: Kind, s: &[u8], at: usize, f: Fields) -> Paired
         next,
     } = head
     else {
-        return Paired::Malformed;
+        return Pair::Malformed;
     };
     if major != 3 {
-        return Paired::Malformed;
+        return Pair::Malformed;
     }
     let left = (s.len() - next) as u64;
     if left < argument {
-        return Paired::Malformed;
+        return Pair::Malformed;
     }
     let len = argument as usize;
     let key = key_of(kind, s, next, len);
-    pair_value(key, f, s, next + len)
+    pair_value(key, s, next + len)
 }
 
 // The pairs of s from a place on, n of them, and nothing after them.
@@ -423,16 +419,15 @@ fn walk(kind: Kind, s: &[u8], n: u64, from: usize) -> Walked
         rc: Field::Absent,
     };
     while 0 < left {
-        let pair = pair_at(kind, s, at, fields);
-        let Paired::Next {
-            at: next,
-            fields: more,
-        } = pair
-        else {
+        let pair = pair_at(kind, s, at);
+        let Pair::Is { key, value, next } = pair else {
             return Walked::Malformed;
         };
+        if !takes(key, value, fields) {
+            return Walked::Malformed;
+        }
+        fields = with_field(key, Field::Is(value), fields);
         at = next;
-        fields = more;
         left -= 1;
     }
     if at == s.len() {

@@ -6,8 +6,8 @@ use native.Mathlib.Omega.{arith}
 use Rattle.cbor.specs.Read.{itemAt}
 use Rattle.cbor.proofs.Laws.{head-place}
 use Rattle.map.specs.declared.Key.{Key}
-use Rattle.map.specs.Walk.{pairValue}
-use Rattle.map.proofs.Ways.{pair-bad, pair-other, pair-cut, pair-whole}
+use Rattle.map.specs.Steps.{readValue}
+use Rattle.map.proofs.Ways.{read-bad, read-other, read-cut, read-whole}
 use borrow.Author.Needs.{needs}
 use Rattle.map.proofs.pair_at.Statement.{statement}
 use Rattle.map.proofs.pair_at.Tie as tie
@@ -24,14 +24,14 @@ enum-told c = search needs
 returns : tie.Need-returns
 returns c =
     let a = c .before .before .before .before .args in
-    sym (pair-bad (a .kind) (a .s .now) (a .at) (a .f) (sym (c .before .before .head-at .ensures) ∙ c .enum-told .given .1))
+    sym (read-bad (a .kind) (a .s .now) (a .at) (sym (c .before .before .head-at .ensures) ∙ c .enum-told .given .1))
 
 returns-2 : tie.Need-returns-2
 returns-2 c =
     let a = c .before .before .before .before .before .before .args in
     let g = c .before .before .head .given in
     let e = sym (c .before .before .before .before .head-at .ensures) ∙ g .1 in
-    sym (pair-other (a .kind) (a .s .now) (a .at) (a .f) (g .0 .0) (g .0 .1 .0) (g .0 .1 .1 .0) e (c .if1 .taken))
+    sym (read-other (a .kind) (a .s .now) (a .at) (g .0 .0) (g .0 .1 .0) (g .0 .1 .1 .0) e (c .if1 .taken))
 
 sub-left : tie.Need-sub-left
 sub-left c =
@@ -46,7 +46,7 @@ returns-3 c =
     let a = c .before .before .before .before .before .before .before .args in
     let g = c .before .before .before .head .given in
     let e = sym (c .before .before .before .before .before .head-at .ensures) ∙ g .1 in
-    sym (pair-cut (a .kind) (a .s .now) (a .at) (a .f) (g .0 .0) (g .0 .1 .0) (g .0 .1 .1 .0) e (c .before .if1 .left) (omega arith))
+    sym (read-cut (a .kind) (a .s .now) (a .at) (g .0 .0) (g .0 .1 .0) (g .0 .1 .1 .0) e (c .before .if1 .left) (omega arith))
 
 key-of-requires : tie.Need-key-of-requires
 key-of-requires c κs =
@@ -68,8 +68,8 @@ returns-4 c =
     let g = c .before .before .before .before .before .head .given in
     let e = sym (c .before .before .before .before .before .before .before .head-at .ensures) ∙ g .1 in
     c .pair-value .ensures
-    ∙ ap (λ (k : Key). pairValue k (a .f) (itemAt (a .s .now) (g .0 .1 .1 .0 + g .0 .1 .0))) (c .before .key-of .ensures)
-    ∙ sym (pair-whole (a .kind) (a .s .now) (a .at) (a .f) (g .0 .0) (g .0 .1 .0) (g .0 .1 .1 .0) e (c .before .before .before .if1 .left) (omega arith))
+    ∙ ap (λ (k : Key). readValue k (itemAt (a .s .now) (g .0 .1 .1 .0 + g .0 .1 .0))) (c .before .key-of .ensures)
+    ∙ sym (read-whole (a .kind) (a .s .now) (a .at) (g .0 .0) (g .0 .1 .0) (g .0 .1 .1 .0) e (c .before .before .before .if1 .left) (omega arith))
 
 pub pair-at-spec : {M : Type 1} → statement M
 pair-at-spec =
