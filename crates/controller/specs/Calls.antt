@@ -1,11 +1,11 @@
 -- Any history of request calls: one memory, one slot, the record handed back after each call. What is shown of the memory at every point.
 -- Assumes nothing.
-use Prim.Native.Nat.{ℕ, _≤_}
+use Prim.Native.Nat.{ℕ, zero, suc, _+_, _*_, _-_, _≤_}
 use mathlib.Core.Path.{_≡_}
 use mathlib.Core.Bool.{Bool, true, false, not}
 use mathlib.Core.List.{List, [], _∷_}
 use lib.Dec.{ltb}
-use lib.ListN.{length, take}
+use lib.ListN.{length, take, drop, getD}
 use Rattle.laws.specs.Choice.{pick}
 use Rattle.slot.specs.declared.Slot.{Slot}
 use Rattle.slot.specs.declared.Session.{Session}
@@ -62,9 +62,38 @@ PacketUnbroken =
     → CutFrom image (actsOf slot first calls)
     → after slot first calls .memory ≡ unbroken slot (first .memory) image (after slot first calls .session .place)
 
--- what a row of calls keeps, from a closed session on: where the slot lies in the memory, there is a history of acts of which the demand holds
-abbrev pub Kept : Slot → List ℕ → List ℕ → Session → Type 0
-Kept slot m m′ s = regionOk slot (length m) ≡ true → (acts : List Act) × Held slot (stateOf m closed) acts (stateOf m′ s)
+-- the reply buffer after calls, the newest first
+unfoldable pub bufferAfter : Slot → State → List ℕ → List Call → List ℕ
+bufferAfter slot first b [] = b
+bufferAfter slot first b (c ∷ calls) = handle slot (after slot first calls) (c .packet) (c .buffer) .reply
+
+-- the length that stands before a packet of a run, in two bytes
+abbrev pub sizeAt : List ℕ → ℕ → ℕ
+sizeAt run at = getD run at 0 * 256 + getD run (at + 1) 0
+
+-- the next call of a run, whose packet follows its length: the reply buffer is as the call before left it
+abbrev pub callAt : Slot → State → List ℕ → List ℕ → ℕ → List Call → Call
+callAt slot first run b at calls = record { packet = take (sizeAt run at) (drop (at + 2) run); buffer = bufferAfter slot first b calls }
+
+-- the calls of a run, n at most from a place on and after those made so far: as far as the packets are whole
+unfoldable pub callsFrom : Slot → State → List ℕ → List ℕ → ℕ → ℕ → List Call → List Call
+callsFrom slot first run b zero at calls = calls
+callsFrom slot first run b (suc n) at calls =
+    pick (ltb (length run - at) 2) calls
+    (pick (ltb (length run - (at + 2)) (sizeAt run at)) calls
+    (callsFrom slot first run b n (at + 2 + sizeAt run at) (callAt slot first run b at calls ∷ calls)))
+
+-- the calls of a run
+abbrev pub callsOf : Slot → State → List ℕ → List ℕ → List Call
+callsOf slot first run b = callsFrom slot first run b (length run) 0 []
+
+-- what a run of packets leaves, from a closed session on: memory, session and reply buffer as after its calls; and where the slot lies in the
+-- memory, the demand holds of them
+abbrev pub Ran : Slot → List ℕ → List ℕ → List ℕ → List ℕ → Session → List ℕ → Type 0
+Ran slot m run b m′ s b′ =
+    (stateOf m′ s ≡ after slot (stateOf m closed) (callsOf slot (stateOf m closed) run b))
+    × (b′ ≡ bufferAfter slot (stateOf m closed) b (callsOf slot (stateOf m closed) run b))
+    × (regionOk slot (length m) ≡ true → Held slot (stateOf m closed) (actsOf slot (stateOf m closed) (callsOf slot (stateOf m closed) run b)) (stateOf m′ s))
 
 -- "every request is answered": a request, with a possible slot and session and a reply buffer of 32 bytes or more, gets a reply, whose bytes are
 -- those of its reply's meaning, in the form that 01 gives it

@@ -19,7 +19,7 @@ ghost use Rattle.smp.specs.Request.{readRequest};
 ghost use Rattle.controller.specs.Doing.{tagFrom, uploadFrom, replyTo, asksReset};
 ghost use Rattle.controller.specs.Handle.{outcome, possible, carried, handle};
 ghost use Rattle.controller.specs.Carried.{Carried};
-ghost use Rattle.controller.specs.Calls.{Kept};
+ghost use Rattle.controller.specs.Calls.{Ran};
 
 // What the request call says.
 pub enum Answer {
@@ -232,16 +232,16 @@ fn handle_next(
     reply: &mut [u8],
 ) -> Session
     requires { ⌜ (at ≤ end) × (end ≤ length (now run)) ⌝ }
-    ensures { λ r. ⌜ stateOf (now (memory .exit)) r ≡ handle slot (stateOf (now (memory .entry)) session) (take (end - at) (drop at (now (run .entry)))) (now (reply .entry)) .state ⌝ }
+    ensures { λ r. ⌜ (stateOf (now (memory .exit)) r ≡ handle slot (stateOf (now (memory .entry)) session) (take (end - at) (drop at (now (run .entry)))) (now (reply .entry)) .state) × (now (reply .exit) ≡ handle slot (stateOf (now (memory .entry)) session) (take (end - at) (drop at (now (run .entry)))) (now (reply .entry)) .reply) ⌝ }
 {
     let handled = handle_packet(slot, session, memory, &run[at..end], reply);
     handled.session
 }
 
 // Takes a run of packets from a closed session on, each behind its length in two bytes, the high one first, as far as they are whole. Gives
-// the session record after the last. What every history of packets keeps, it keeps.
+// the session record after the last, and leaves what the calls left. What every history of packets keeps, it keeps.
 pub fn handle_run(slot: Slot, memory: &mut [u8], run: &[u8], reply: &mut [u8]) -> Session
-    ensures { λ r. ⌜ Kept slot (now (memory .entry)) (now (memory .exit)) r ⌝ }
+    ensures { λ r. ⌜ Ran slot (now (memory .entry)) (now (run .entry)) (now (reply .entry)) (now (memory .exit)) r (now (reply .exit)) ⌝ }
 {
     let mut session = slot::closed_session();
     let mut at = 0;

@@ -25,7 +25,9 @@ same-length-2 : tie.Need-same-length-2
 same-length-2 c = search needs
 
 returns : tie.Need-returns
-returns c = ap (λ (o : Outcome). o .state) (c .before .before .before .before .before .handle-packet .ensures)
+returns c =
+    let e = c .before .before .before .before .before .handle-packet .ensures in
+    (ap (λ (o : Outcome). o .state) e, ap (λ (o : Outcome). o .reply) e)
 
 pub handle-next-spec : {M : Type 1} → statement M
 handle-next-spec =

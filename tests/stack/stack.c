@@ -1,0 +1,108 @@
+/* Measures how much stack each call of the archive uses: the call runs on a painted stack of its own, and the paint that is gone is counted. */
+#define _GNU_SOURCE
+#include <stdio.h>
+#include <stdlib.h>
+#include <string.h>
+#include <ucontext.h>
+
+#include "belagunthi.h"
+
+enum { STACK = 65536, PAINT = 0xA5, LIMIT = 2048 };
+
+static unsigned char stack[STACK];
+static ucontext_t here, there;
+static void (*job)(void);
+
+static uint8_t memory[8192], packet[1024], reply[1024], line[128], body[900], out[1024], tag[32];
+static uint32_t reader[4], session[4], numbers[12], size;
+static size_t line_len, packet_len;
+
+/* Runs the job on the painted stack. */
+static void enter(void) {
+    job();
+}
+
+/* Does nothing: what entering and leaving the painted stack costs by itself. */
+static void nothing(void) {
+}
+
+/* The calls, each on inputs that take its longest way. */
+static void take_line(void) {
+    bg_take_line(reader, line, line_len, packet, sizeof packet, &size);
+}
+
+static void send_frame(void) {
+    bg_send_frame(body, sizeof body, 9, out, sizeof out, numbers);
+}
+
+static void configure(void) {
+    bg_configure(0, 4096, sizeof memory, session, tag);
+}
+
+static void handle(void) {
+    bg_handle(memory, sizeof memory, 0, 4096, session, tag, packet, packet_len, reply, sizeof reply, numbers);
+}
+
+static void write_echo(void) {
+    bg_write_echo(1, body, sizeof body, out, sizeof out, &size);
+}
+
+static void write_upload(void) {
+    bg_write_upload(1, body, 500, 0, 900, tag, 32, out, sizeof out, &size);
+}
+
+static void read_reply(void) {
+    bg_read_reply(reply, 22, numbers);
+}
+
+/* How many bytes of stack a job uses, beyond what is there without it. */
+static size_t used(void (*what)(void)) {
+    size_t i = 0;
+    memset(stack, PAINT, sizeof stack);
+    getcontext(&there);
+    there.uc_stack.ss_sp = stack;
+    there.uc_stack.ss_size = sizeof stack;
+    there.uc_link = &here;
+    job = what;
+    makecontext(&there, enter, 0);
+    swapcontext(&here, &there);
+    while (i < sizeof stack && stack[i] == PAINT) {
+        i++;
+    }
+    return sizeof stack - i;
+}
+
+/* Measures one call, prints it, and says whether it is within the limit. */
+static int within(const char *name, void (*what)(void), size_t base) {
+    size_t n = used(what);
+    n = n > base ? n - base : 0;
+    printf("stack: %-16s %5zu bytes\n", name, n);
+    return n <= LIMIT;
+}
+
+int main(void) {
+    size_t base = used(nothing);
+    int fine = 1;
+    memset(body, 7, sizeof body);
+    memset(tag, 9, sizeof tag);
+    bg_configure(0, 4096, sizeof memory, session, tag);
+    memset(tag, 9, sizeof tag);
+    if (bg_send_frame(body, sizeof body, 0, line, sizeof line, numbers) != 0) {
+        return 2;
+    }
+    line_len = numbers[0];
+    fine &= within("bg_take_line", take_line, base);
+    fine &= within("bg_send_frame", send_frame, base);
+    if (bg_write_upload(1, body, 500, 0, 900, tag, 32, packet, sizeof packet, &size) != 0) {
+        return 2;
+    }
+    packet_len = size;
+    memset(tag, 0, sizeof tag);
+    fine &= within("bg_handle", handle, base);
+    fine &= within("bg_read_reply", read_reply, base);
+    fine &= within("bg_configure", configure, base);
+    fine &= within("bg_write_echo", write_echo, base);
+    fine &= within("bg_write_upload", write_upload, base);
+    printf("stack: the limit is %d bytes: %s\n", LIMIT, fine ? "kept" : "BROKEN");
+    return fine ? 0 : 1;
+}
