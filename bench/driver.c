@@ -24,7 +24,7 @@ static crc_call *crc_of;
 
 static size_t image_len, body_size, leave_last, line_count, out_len, request_count, reply_count;
 static uint8_t *image, *lines, *out, *memory, *requests, *replies;
-static uint32_t *line_lens, *request_lens, *reply_lens;
+static uint32_t *line_lens, *request_lens, *reply_lens, *numbers_read;
 static uint64_t sum;
 
 /* Ends with one line where a call was refused or a result is wrong. */
@@ -94,13 +94,9 @@ static void run_crc(void)
 /* Reads every reply. */
 static void run_reply(void)
 {
-    uint32_t numbers[12];
-    for (size_t i = 0; i < reply_count; i++) {
-        if (bg_read_reply(replies + i * PACKET, reply_lens[i], numbers) != 0)
+    for (size_t i = 0; i < reply_count; i++)
+        if (bg_read_reply(replies + i * PACKET, reply_lens[i], numbers_read + i * BG_REPLY) != 0)
             fail("a reply was refused");
-        for (size_t j = 0; j < 12; j++)
-            sum = sum * 31 + numbers[j];
-    }
 }
 
 /* Handles every request. */
@@ -288,6 +284,7 @@ int main(int argc, char **argv)
     replies = room(packets * PACKET);
     request_lens = room(packets * sizeof *request_lens);
     reply_lens = room(packets * sizeof *reply_lens);
+    numbers_read = room(packets * BG_REPLY * sizeof *numbers_read);
     uint64_t state = 88172645463325252u;
     for (size_t i = 0; i < image_len; i++) {
         state ^= state << 13;
@@ -348,6 +345,8 @@ int main(int argc, char **argv)
             fail("the slot does not hold the image");
         value = digest(value, memory, image_len);
     } else if (run == run_reply) {
+        for (size_t i = 0; i < reply_count * BG_REPLY; i++)
+            sum = sum * 31 + numbers_read[i];
         value = digest_all(value, replies, reply_lens, reply_count, PACKET) ^ sum;
         bytes = total(reply_lens, reply_count);
     } else if (run == run_handle) {

@@ -1,5 +1,6 @@
 """Prints the benchmark's table and writes it with a plot: report.py FOLDER MARKDOWN SVG. Standard library only."""
 import sys
+import textwrap
 
 PROGRAMS = [("archive", "archive"), ("bits", "C, CRC bit by bit"), ("table", "C, CRC by table"), ("rust", "Rust")]
 COLOURS = {"archive": "#1b5e8c", "bits": "#c96a12", "table": "#e8b25a", "rust": "#7a7a7a"}
@@ -26,6 +27,19 @@ JUDGED = [
     ("readlong", ["bits"]), ("readlong-open", ["bits", "rust"]), ("reply", ["rust"]), ("echo", ["rust"]),
     ("pairs", ["rust"]), ("handle", ["rust"]), ("frames", ["bits"]), ("upload", ["rust"]),
 ]
+MAPS = "the map walk keeps the nine fields of a map, 32 bytes each, by value and moves them on at each pair"
+# Why a path is above the goal, by the counts of single instructions, and the archive's count that this was seen at.
+WHY = {
+    "readlong-open": (14.61, "of 1,359 instructions a line of 93 raw bytes 959 are the decoding loop; outside it, the "
+                      "256-byte table of Base64 values is built on the stack and the raw buffer zeroed for each line, "
+                      "body bytes are copied by a loop in place of memcpy (122 with its checks), and 76 go to the "
+                      "record and the outer call"),
+    "reply": (73.99, MAPS + "; of about 1,490 instructions of it a reply, about 1,230 are moves"),
+    "echo": (3.75, "the same walk as in the next path (its single instructions were not counted here)"),
+    "pairs": (84.13, MAPS + "; of about 590 instructions for a pair of 7 bytes, about 490 are moves, most of them to "
+              "or from the stack"),
+    "upload": (158.08, "the CRC bit by bit, 54 for each byte sent and 54 for each byte read, against Rust's table"),
+}
 
 
 def rows(path):
@@ -80,6 +94,14 @@ def verdicts(counts):
     return lines
 
 
+def why(counts, name):
+    """Why a path is above the goal, where that was looked into at about this count."""
+    path = next((path for path, its in PATHS if its == name), None)
+    seen, reason = WHY.get(path, (0, ""))
+    there = path is not None and abs(counts[path, "archive", 1024] - seen) <= 0.01 * seen
+    return reason if there else "not looked into at this count"
+
+
 def crc_cost(counts, program):
     """What the last frame of each long body adds, in the sender and in the reader, to a byte: the CRC."""
     return [counts[p, program, 1024] - counts[p + "-open", program, 1024] for p in ("sendlong", "readlong")]
@@ -99,7 +121,8 @@ def markdown(counts, speeds, tools):
         share = [100 * c / counts[path, p, 1024] for c, path in zip(cost, ("sendlong", "readlong"))]
         crc.append([name] + [number(c) for c in cost] + [number(s, "{:.0f} %") for s in share])
     judged = verdicts(counts)
-    missed = [f"{line[0]} ({line[4]} times {line[3]})" for line in judged if line[5] != "met"]
+    missed = [textwrap.fill(f"- {line[0]}, {line[4]} times {line[3]}: {why(counts, line[0])}.", 118,
+                            subsequent_indent="  ") for line in judged if line[5] != "met"]
     spread = max((max(v) / min(v), path, p) for path, _ in GROWING for p in ("archive", "rust")
                  for v in [[counts[path, p, size] for size in SIZES]])
     return f"""# Benchmark
@@ -124,7 +147,7 @@ the CRC costs for each byte of the image, once sent and once read (the share bel
 
 {table(["path", "archive", "the other", "which", "ratio", "goal"], judged)}
 
-{"Not met:" + "".join(chr(10) + "- " + line for line in missed) if missed else "Met on every path."}
+{"Not met:" + "".join(chr(10) + line for line in missed) if missed else "Met on every path."}
 
 ## The CRC's share
 
@@ -157,8 +180,8 @@ shares: these vary from run to run, the counts above hardly.
   reply; a byte is a byte of the image. In the end the slot is compared with the image. "Frames alone": the same
   requests and replies, written beforehand, sent and read.
 - Instructions: one round under callgrind, counted only inside the measured function, so that start-up, setting up and
-  digests are out. The drivers' loops (a few instructions a line; for each reply about 110 that sum up its numbers),
-  memcpy, and malloc in the Rust program are in. A memcpy's count may depend on the processor's features.
+  digests are out. The drivers' loops (some instructions a line or packet), memcpy, and malloc in the Rust program
+  are in. A memcpy's count may depend on the processor's features.
 - Buffers are allocated and touched before the rounds. Nothing is cleared between rounds: caches stay warm, and output
   buffers hold the last round's bytes. The processor's frequency is not fixed.
 - gcc {tools["gcc"]} -O2, no link-time optimization; rustc {tools["rustc"]}, cargo's release profile with overflow

@@ -31,6 +31,7 @@ struct World {
     replies: Vec<u8>,
     reply_lens: Vec<u32>,
     reply_count: usize,
+    numbers_read: Vec<[u32; 12]>,
     come: Vec<u8>,
     back: Vec<u8>,
     sum: u64,
@@ -105,14 +106,10 @@ fn run_crc(w: &mut World) {
 
 /// Reads every reply.
 fn run_reply(w: &mut World) {
-    let mut numbers = [0; 12];
     for i in 0..w.reply_count {
         let reply = &w.replies[i * PACKET..i * PACKET + w.reply_lens[i] as usize];
-        if port::read_reply(black_box(reply), &mut numbers) != 0 {
+        if port::read_reply(reply, &mut w.numbers_read[i]) != 0 {
             fail("a reply was refused");
-        }
-        for number in black_box(&numbers) {
-            w.sum = w.sum.wrapping_mul(31).wrapping_add(*number as u64);
         }
     }
 }
@@ -312,6 +309,7 @@ fn main() {
         replies: vec![1; packets * PACKET],
         reply_lens: vec![1; packets],
         reply_count: 0,
+        numbers_read: vec![[1; 12]; packets],
         come: vec![1; 65536],
         back: vec![1; 65536],
         sum: 0,
@@ -373,7 +371,11 @@ fn main() {
         }
         "handle" => (replies, total(&w.request_lens[..w.request_count])),
         "crc" => (w.sum, size),
-        _ => (replies ^ w.sum, total(&w.reply_lens[..w.reply_count])),
+        _ => {
+            let numbers = w.numbers_read[..w.reply_count].iter().flatten();
+            let sum = numbers.fold(0u64, |sum, number| sum.wrapping_mul(31).wrapping_add(*number as u64));
+            (replies ^ sum, total(&w.reply_lens[..w.reply_count]))
+        }
     };
     println!("{value:016x} {bytes} {best}");
 }
