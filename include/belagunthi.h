@@ -36,8 +36,8 @@ extern "C" {
 /*
  * The reader's record: { open, total, come, first }. All 0 is idle; begin with that. Where open is not 0 a packet is open: total is 10 to
  * 65,535, come counts the body and CRC bytes that have come and is below total, and first is the first CRC byte where come is total less 1,
- * and is not looked at elsewhere; other numbers make it impossible, and so does a first above 255. A call that stores an open record stores
- * open as 1, and first as 0 unless come is total less 1.
+ * and elsewhere any number up to 255; other numbers make it impossible. A call that stores an open record stores open as 1, and first as 0
+ * unless come is total less 1.
  */
 #define BG_READER 4
 
