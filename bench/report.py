@@ -27,18 +27,18 @@ JUDGED = [
     ("readlong", ["bits"]), ("readlong-open", ["bits", "rust"]), ("reply", ["rust"]), ("echo", ["rust"]),
     ("pairs", ["rust"]), ("handle", ["rust"]), ("frames", ["bits"]), ("upload", ["rust"]),
 ]
-MAPS = "the map walk keeps the nine fields of a map, 32 bytes each, by value and moves them on at each pair"
+MAPS = ("the map walk keeps the nine fields of a map, 32 bytes each, by value, and copies them at each pair "
+        "(read from the code, not counted instruction by instruction)")
 # Why a path is above the goal, by the counts of single instructions, and the archive's count that this was seen at.
 WHY = {
     "readlong-open": (14.61, "of 1,359 instructions a line of 93 raw bytes 959 are the decoding loop; outside it, the "
                       "256-byte table of Base64 values is built on the stack and the raw buffer zeroed for each line, "
                       "body bytes are copied by a loop in place of memcpy (122 with its checks), and 76 go to the "
                       "record and the outer call"),
-    "reply": (73.99, MAPS + "; of about 1,490 instructions of it a reply, about 1,230 are moves"),
-    "echo": (3.75, "the same walk as in the next path (its single instructions were not counted here)"),
-    "pairs": (84.13, MAPS + "; of about 590 instructions for a pair of 7 bytes, about 490 are moves, most of them to "
-              "or from the stack"),
-    "upload": (158.08, "the CRC bit by bit, 54 for each byte sent and 54 for each byte read, against Rust's table"),
+    "reply": (41.06, MAPS),
+    "echo": (2.42, MAPS),
+    "pairs": (34.94, MAPS),
+    "upload": (155.09, "the CRC bit by bit, 54 for each byte sent and 54 for each byte read, against Rust's table"),
 }
 
 

@@ -15,7 +15,7 @@ static void (*job)(void);
 
 static uint8_t memory[8192], packet[1024], reply[1024], line[128], body[900], out[1024], tag[32];
 static uint32_t reader[4], session[4], numbers[12], size;
-static size_t line_len, packet_len;
+static size_t line_len, packet_len, reply_len;
 
 /* Runs the job on the painted stack. */
 static void enter(void) {
@@ -26,7 +26,7 @@ static void enter(void) {
 static void nothing(void) {
 }
 
-/* The calls, each on inputs that take its longest way. */
+/* The calls, each on an input that it answers: a first frame, a last frame, an upload that starts a session, and so on. */
 static void take_line(void) {
     bg_take_line(reader, line, line_len, packet, sizeof packet, &size);
 }
@@ -51,8 +51,20 @@ static void write_upload(void) {
     bg_write_upload(1, body, 500, 0, 900, tag, 32, out, sizeof out, &size);
 }
 
+static void write_reset(void) {
+    bg_write_reset(1, out, sizeof out, &size);
+}
+
+static void write_erase(void) {
+    bg_write_erase(1, out, sizeof out, &size);
+}
+
+static void next_sequence(void) {
+    numbers[0] = bg_next_sequence(1);
+}
+
 static void read_reply(void) {
-    bg_read_reply(reply, 22, numbers);
+    bg_read_reply(reply, reply_len, numbers);
 }
 
 /* How many bytes of stack a job uses, beyond what is there without it. */
@@ -76,7 +88,7 @@ static size_t used(void (*what)(void)) {
 static int within(const char *name, void (*what)(void), size_t base) {
     size_t n = used(what);
     n = n > base ? n - base : 0;
-    printf("stack: %-16s %5zu bytes\n", name, n);
+    printf("stack: %-18s %5zu bytes\n", name, n);
     return n <= LIMIT;
 }
 
@@ -92,6 +104,13 @@ int main(void) {
     }
     line_len = numbers[0];
     fine &= within("bg_take_line", take_line, base);
+    for (uint32_t k = 1; bg_send_frame(body, sizeof body, k, line, sizeof line, numbers) == 0; k++) {
+        line_len = numbers[0];
+        fine &= k + 1 < numbers[1] ? (take_line(), 1) : within("bg_take_line, last", take_line, base);
+    }
+    if (size != sizeof body) {
+        return 2;
+    }
     fine &= within("bg_send_frame", send_frame, base);
     if (bg_write_upload(1, body, 500, 0, 900, tag, 32, packet, sizeof packet, &size) != 0) {
         return 2;
@@ -99,10 +118,17 @@ int main(void) {
     packet_len = size;
     memset(tag, 0, sizeof tag);
     fine &= within("bg_handle", handle, base);
+    reply_len = numbers[0];
+    if (session[0] != 1 || bg_read_reply(reply, reply_len, numbers) != 0 || numbers[8] != 500) {
+        return 2;
+    }
     fine &= within("bg_read_reply", read_reply, base);
     fine &= within("bg_configure", configure, base);
     fine &= within("bg_write_echo", write_echo, base);
     fine &= within("bg_write_upload", write_upload, base);
+    fine &= within("bg_write_reset", write_reset, base);
+    fine &= within("bg_write_erase", write_erase, base);
+    fine &= within("bg_next_sequence", next_sequence, base);
     printf("stack: the limit is %d bytes: %s\n", LIMIT, fine ? "kept" : "BROKEN");
     return fine ? 0 : 1;
 }
