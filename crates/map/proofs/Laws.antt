@@ -6,6 +6,7 @@ use mathlib.Core.List.{List, _++_, append-assoc}
 use Prim.Native.Nat.{ℕ, suc, _+_, _-_, _^_, _≤_, _<_}
 use native.Mathlib.Omega.{arith}
 use lib.Dec.{lit<}
+use borrow.Author.Tests.{eq-eqb}
 use lib.ListN.{length, take, drop, length-append}
 use lib.Seq.{drop-append-add, take-append-seam, drop-at}
 use Rattle.cbor.specs.declared.Value.{Value}
@@ -23,7 +24,7 @@ use Rattle.map.specs.declared.Paired.{Paired}
 use Rattle.map.specs.declared.Paired.the-variants.{Next}
 use Rattle.map.specs.Keys.{keyOf, typeOf, typeFor}
 use Rattle.map.specs.Walk.{nothing, fieldAt, withField, isThere, listed, pairValue, pairAt, afterPair, walk, mapFrom}
-use Rattle.map.proofs.Ways.{entered-listed, known-right, value-entered, pair-whole, walk-end, map-pairs, map-empty}
+use Rattle.map.proofs.Ways.{takes-type, takes-entered, value-entered, pair-whole, walk-end, map-pairs, map-empty}
 
 -- a pair whose value is read back, under a known key that is absent so far and has this type
 pub pair-back : (kind : Kind) (pre k rest : List ℕ) (f : Fields) (v : Value) (next : ℕ) → length k < 2 ^ 64 → listed (keyOf kind k) ≡ true → fieldAt (keyOf kind k) f ≡ Absent → typeOf v ≡ typeFor (keyOf kind k) → itemAt (pre ++ (textOf k ++ rest)) (length pre + length (textOf k)) ≡ Item.Is v next → pairAt kind (pre ++ (textOf k ++ rest)) (length pre) f ≡ Next next (withField (keyOf kind k) (Is v) f)
@@ -42,7 +43,7 @@ pair-back kind pre k rest f v next small known absent type item =
     pair-whole kind s (length pre) f 3 (length k) from read refl fits
     ∙ ap₂ (λ (x : List ℕ) (at : ℕ). pairValue (keyOf kind x) f (itemAt s at)) name place
     ∙ ap (λ (i : Item). pairValue (keyOf kind k) f i) item
-    ∙ value-entered (keyOf kind k) f (withField (keyOf kind k) (Is v) f) v next (entered-listed (keyOf kind k) v f known ∙ known-right (keyOf kind k) v f there type)
+    ∙ value-entered (keyOf kind k) f (withField (keyOf kind k) (Is v) f) v next (takes-entered (keyOf kind k) v f (takes-type (keyOf kind k) v f known there ∙ eq-eqb _ _ type))
   where
     key-read : (pre head k rest : List ℕ) → take (length k) (drop (length pre + length head) (pre ++ ((head ++ k) ++ rest))) ≡ k
     key-read pre head k rest =

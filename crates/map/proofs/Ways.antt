@@ -26,7 +26,7 @@ use Rattle.map.specs.declared.Paired.the-variants.{Next}
 use Rattle.laws.specs.Bytes.{same}
 use Rattle.map.specs.Keys.{keyOf, typeOf, typeFor}
 use Rattle.map.specs.Walk.{nothing, fieldAt, withField, isThere, listed, entered, pairEnd, pairValue, pairAfter, pairAt, afterPair, walk, mapAfter, mapFrom}
-use Rattle.map.specs.Steps.{enteredKnown, takes, readValue, readAfter, readAt}
+use Rattle.map.specs.Steps.{takes, readValue, readAfter, readAt}
 
 -- a known key has a type below 99, and another has none
 pub listed-is : (k : Key) → ltb (typeFor k) 99 ≡ listed k
@@ -41,27 +41,6 @@ listed-is Key.Upgrade = refl
 listed-is Key.Slot = refl
 listed-is Key.Rc = refl
 listed-is Key.Other = refl
-
--- a key and its value: a known key, and another; a known one a second time, with its type, and with another type
-pub entered-listed : (k : Key) (v : Value) (f : Fields) → listed k ≡ true → entered k v f ≡ enteredKnown k v f
-unfolding entered enteredKnown
-entered-listed k v f h = simp (h, pick-yes)
-
-pub entered-other : (k : Key) (v : Value) (f : Fields) → listed k ≡ false → entered k v f ≡ Map f
-unfolding entered
-entered-other k v f h = simp (h, pick-no)
-
-pub known-twice : (k : Key) (v : Value) (f : Fields) → isThere (fieldAt k f) ≡ true → enteredKnown k v f ≡ Walked.Malformed
-unfolding enteredKnown
-known-twice k v f h = simp (h, pick-yes)
-
-pub known-right : (k : Key) (v : Value) (f : Fields) → isThere (fieldAt k f) ≡ false → typeOf v ≡ typeFor k → enteredKnown k v f ≡ Map (withField k (Is v) f)
-unfolding enteredKnown
-known-right k v f h e = simp (h, pick-no, eq-eqb _ _ e, pick-yes)
-
-pub known-wrong : (k : Key) (v : Value) (f : Fields) → isThere (fieldAt k f) ≡ false → (typeOf v ≡ typeFor k → ⊥) → enteredKnown k v f ≡ Walked.Malformed
-unfolding enteredKnown
-known-wrong k v f h e = simp (h, ne-eqb _ _ e, pick-no)
 
 -- a pair's value that is entered
 pub value-entered : (k : Key) (f g : Fields) (v : Value) (next : ℕ) → entered k v f ≡ Map g → pairValue k f (Item.Is v next) ≡ Next next g
@@ -125,7 +104,7 @@ known-refuses true c f h = refl
 known-refuses false true f h = absurd (false≢true (sym h))
 known-refuses false false f h = refl
 
-takes-entered : (k : Key) (v : Value) (f : Fields) → takes k v f ≡ true → entered k v f ≡ Map (withField k (Is v) f)
+pub takes-entered : (k : Key) (v : Value) (f : Fields) → takes k v f ≡ true → entered k v f ≡ Map (withField k (Is v) f)
 unfolding takes entered withField pick
 takes-entered Key.Other v f h = refl
 takes-entered Key.Text v f h = known-takes (isThere (fieldAt Key.Text f)) (eqb (typeOf v) (typeFor Key.Text)) (withField Key.Text (Is v) f) h

@@ -13,24 +13,14 @@ use Rattle.cbor.specs.Read.{headAt, itemAt}
 use Rattle.map.specs.declared.Kind.{Kind}
 use Rattle.map.specs.declared.Pair.{Pair}
 use Rattle.map.specs.declared.Key.{Key}
-use Rattle.map.specs.declared.Field.the-variants.{Is}
 use Rattle.map.specs.declared.Fields.{Fields}
-use Rattle.map.specs.declared.Walked.{Walked}
-use Rattle.map.specs.declared.Walked.the-variants.{Map}
 use Rattle.laws.specs.Bytes.{same}
 use Rattle.map.specs.Keys.{keyOf, nameImage, nameSha, nameUpgrade, typeOf, typeFor}
-use Rattle.map.specs.Walk.{fieldAt, withField, isThere, listed}
+use Rattle.map.specs.Walk.{fieldAt, isThere, listed}
 
 -- the upload's key of a name that is none of the first three
 unfoldable pub secondName : List ℕ → Key
 secondName k = pick (same k nameImage) Key.Image (pick (same k nameSha) Key.Sha (pick (same k nameUpgrade) Key.Upgrade Key.Other))
-
--- a known key and its value
-unfoldable pub enteredKnown : Key → Value → Fields → Walked
-enteredKnown k v f =
-    pick (isThere (fieldAt k f)) Walked.Malformed
-    (pick (eqb (typeOf v) (typeFor k)) (Map (withField k (Is v) f))
-    Walked.Malformed)
 
 -- the fields take a key and its value
 unfoldable pub takes : Key → Value → Fields → Bool
