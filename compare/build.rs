@@ -5,9 +5,8 @@ use std::path::Path;
 /// Says where the archive is, or why not.
 fn main() {
     println!("cargo:rerun-if-env-changed=BELAGUNTHI_ARCHIVE");
-    let Ok(folder) = std::env::var("BELAGUNTHI_ARCHIVE") else {
-        panic!("set BELAGUNTHI_ARCHIVE to the folder of libport.a");
-    };
+    let folder =
+        std::env::var("BELAGUNTHI_ARCHIVE").expect("set BELAGUNTHI_ARCHIVE to the folder of libport.a");
     let folder = std::fs::canonicalize(&folder).unwrap_or_else(|_| panic!("no folder {folder}"));
     let archive = Path::new(&folder).join("libport.a");
     if !archive.is_file() {

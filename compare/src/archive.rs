@@ -126,7 +126,7 @@ impl<T: Element> Lent<T> {
 pub fn call(call: &Call, exact: bool) -> Outcome {
     let shape = call.kind.shape();
     // The out-parameters' first values are free, so the last bit of the last one decides about null.
-    let null = call.words.last().is_some_and(|word| word & 1 == 1);
+    let null = call.words.last().map_or(false, |word| word & 1 == 1);
     let mut at = 0;
     let mut words: Vec<Lent<u32>> = Vec::with_capacity(2);
     for (_, length) in shape.words {

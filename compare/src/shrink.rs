@@ -78,7 +78,7 @@ fn packets(packet: &[u8]) -> Vec<Vec<u8>> {
     for payload in cuts(payload) {
         let mut smaller = [header, &payload].concat();
         smaller[2..4].copy_from_slice(&(payload.len() as u16).to_be_bytes());
-        if payload.first().is_some_and(|head| (0xA1..=0xB7).contains(head)) {
+        if payload.first().map_or(false, |head| (0xA1..=0xB7).contains(head)) {
             let mut fewer = smaller.clone();
             fewer[8] -= 1;
             list.push(fewer);
@@ -120,8 +120,9 @@ fn write_map(pairs: &[Pair]) -> Vec<u8> {
 
 /// Smaller maps than a well-formed one: a pair less, a shorter string, a smaller number, all heads shortest.
 fn maps(payload: &[u8]) -> Vec<Vec<u8>> {
-    let Ok(map) = cbor::read_map(payload) else {
-        return Vec::new();
+    let map = match cbor::read_map(payload) {
+        Ok(map) => map,
+        Err(_) => return Vec::new(),
     };
     let pairs: Vec<Pair> = map
         .pairs()
@@ -174,8 +175,9 @@ fn lines(line: &[u8]) -> Vec<Vec<u8>> {
         return list;
     }
     let marker = [line[0], line[1]];
-    let Some(raw) = base64::decode(&line[2..line.len() - 1]) else {
-        return list;
+    let raw = match base64::decode(&line[2..line.len() - 1]) {
+        Some(raw) => raw,
+        None => return list,
     };
     for raw in cuts(&raw).into_iter().chain(plainer(&raw)) {
         list.push(sender::line(marker, &raw));
@@ -197,8 +199,9 @@ fn completing(call: &Call) -> Vec<Call> {
     let (line, packet) = (&call.buffers[0], &call.buffers[1]);
     let (total, come) = (call.words[1] as usize, call.words[2] as usize);
     let text = line.get(2..line.len().max(3) - 1).unwrap_or(&[]);
-    let Some(raw) = base64::decode(text) else {
-        return list;
+    let raw = match base64::decode(text) {
+        Some(raw) => raw,
+        None => return list,
     };
     if line[0] != 4 || come + raw.len() != total || raw.len() < 3 || packet.len() + 2 < total {
         return list;
@@ -277,7 +280,7 @@ fn candidates(call: &Call) -> Vec<Call> {
     if call.kind == Kind::Handle {
         // A smaller memory with its slot.
         let (start, size, memory) = (call.numbers[0] as usize, call.numbers[1] as usize, &call.buffers[0]);
-        if start.checked_add(size).is_some_and(|end| end <= memory.len()) {
+        if start.checked_add(size).map_or(false, |end| end <= memory.len()) {
             with_buffer(0, memory[..start + size].to_vec());
             for (start, size) in [(0, size), (0, size / 2), (0, size - size.min(1)), (start / 2, size)] {
                 let mut smaller = call.clone();

@@ -44,7 +44,7 @@ pub fn decode(text: &[u8]) -> Option<Vec<u8>> {
 
 /// The text of some bytes, with `=` where the last group is short.
 pub fn encode(bytes: &[u8]) -> Vec<u8> {
-    let mut text = Vec::with_capacity(bytes.len().div_ceil(3) * 4);
+    let mut text = Vec::with_capacity((bytes.len() + 2) / 3 * 4);
     for group in bytes.chunks(3) {
         let second = group.get(1).copied().unwrap_or(0);
         let third = group.get(2).copied().unwrap_or(0);

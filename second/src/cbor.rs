@@ -77,8 +77,9 @@ pub fn read_map(payload: &[u8]) -> Result<Map<'_>, Malformed> {
     }
     let mut read = 0;
     while read < count {
-        let (Value::Text(key), after_key) = read_value(payload, at)? else {
-            return Err(Malformed);
+        let (key, after_key) = match read_value(payload, at)? {
+            (Value::Text(key), after_key) => (key, after_key),
+            _ => return Err(Malformed),
         };
         let (value, after_value) = read_value(payload, after_key)?;
         pairs.push((key, value));

@@ -106,7 +106,7 @@ fn perform(
         }
         Command::Reset => Ok(Done { map: rc(0), session: After::Closed, reset: true }),
         Command::Erase => {
-            if map.unsigned("slot")?.is_some_and(|slot| slot != 1) {
+            if map.unsigned("slot")?.map_or(false, |slot| slot != 1) {
                 return Ok(Done::only(rc(3)));
             }
             slot.fill(255);

@@ -100,9 +100,12 @@ fn add(open: Unfinished, bytes: &[u8], packet: &mut [u8]) -> Result<(Taken, Opti
 /// Takes one line: `Complete` with the body's length where it completes a packet, else `More`; or refuses 2 to 9.
 pub fn take_line(record: &mut [u32; 4], line: &[u8], packet: &mut [u8]) -> Result<Taken, Refusal> {
     let (marker, text) = parts(line)?;
-    let Some(raw) = base64::decode(text) else {
-        *record = [0; 4];
-        return Err(Refusal::BadText);
+    let raw = match base64::decode(text) {
+        Some(raw) => raw,
+        None => {
+            *record = [0; 4];
+            return Err(Refusal::BadText);
+        }
     };
     let answer = begin(record, marker, &raw).and_then(|(open, bytes)| add(open, bytes, packet));
     match answer {

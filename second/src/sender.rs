@@ -39,9 +39,7 @@ pub fn send_frame(body: &[u8], k: usize, out: &mut [u8]) -> Result<(usize, usize
         return Err(Refusal::CannotSend);
     }
     let frames = cut(body.len());
-    let Some((marker, carried)) = frames.get(k).copied() else {
-        return Err(Refusal::NoSuchFrame);
-    };
+    let (marker, carried) = frames.get(k).copied().ok_or(Refusal::NoSuchFrame)?;
     let before: usize = frames[..k].iter().map(|(_, carried)| carried).sum();
     let mut raw = Vec::with_capacity(93);
     if k == 0 {

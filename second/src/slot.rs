@@ -39,7 +39,7 @@ pub enum Decision {
 
 /// Says whether a slot is 1 to 1,048,576 bytes and ends inside the memory.
 pub fn possible_region(start: usize, size: usize, memory: usize) -> bool {
-    (1..=LARGEST).contains(&size) && start.checked_add(size).is_some_and(|end| end <= memory)
+    (1..=LARGEST).contains(&size) && start.checked_add(size).map_or(false, |end| end <= memory)
 }
 
 /// The session of a record, nothing where it is closed; or refusal 1 where the record is impossible.
@@ -72,10 +72,11 @@ pub fn store(session: Option<Session>, record: &mut [u32; 4], tag: &mut [u8; 32]
 /// Decides an upload by the three checks in order, for a slot of this size.
 pub fn decide(upload: &Upload, size: usize, session: Option<Session>) -> Decision {
     // Check 1.
-    let (Some(off), Some(data)) = (upload.off, upload.data) else {
-        return Decision::Rc(3);
+    let (off, data) = match (upload.off, upload.data) {
+        (Some(off), Some(data)) => (off, data),
+        _ => return Decision::Rc(3),
     };
-    if off > LARGEST_NUMBER || upload.len.is_some_and(|len| len > LARGEST_NUMBER) || data.is_empty() {
+    if off > LARGEST_NUMBER || upload.len.map_or(false, |len| len > LARGEST_NUMBER) || data.is_empty() {
         return Decision::Rc(3);
     }
     if off > 0 {
@@ -87,8 +88,9 @@ pub fn decide(upload: &Upload, size: usize, session: Option<Session>) -> Decisio
 
 /// Check 2: a chunk above offset 0.
 fn go_on(off: u64, data: &[u8], session: Option<Session>) -> Decision {
-    let Some(session) = session else {
-        return Decision::Tell(0);
+    let session = match session {
+        Some(session) => session,
+        None => return Decision::Tell(0),
     };
     if off != session.place as u64 {
         return Decision::Tell(session.place);
@@ -102,11 +104,12 @@ fn go_on(off: u64, data: &[u8], session: Option<Session>) -> Decision {
 
 /// Check 3: a chunk at offset 0.
 fn start(upload: &Upload, data: &[u8], size: usize, session: Option<Session>) -> Decision {
-    if upload.image.is_some_and(|image| image != 0) {
+    if upload.image.map_or(false, |image| image != 0) {
         return Decision::Rc(3);
     }
-    let Some(len) = upload.len else {
-        return Decision::Rc(3);
+    let len = match upload.len {
+        Some(len) => len,
+        None => return Decision::Rc(3),
     };
     if len == 0 || len > size as u64 {
         return Decision::Rc(3);
@@ -123,7 +126,7 @@ fn start(upload: &Upload, data: &[u8], size: usize, session: Option<Session>) ->
     }
     // A request or session without a tag never matches.
     let same_tag = session.filter(|session| tag.is_some() && session.tag == tag);
-    if same_tag.is_some_and(|session| session.length as u64 != len) {
+    if same_tag.map_or(false, |session| session.length as u64 != len) {
         return Decision::Rc(3);
     }
     if upload.upgrade == Some(true) {

@@ -135,7 +135,7 @@ fn frame_count_is_the_formula() {
         let formula = match length {
             0..=88 => 1,
             89..=182 => 2,
-            _ => 2 + (length - 182).div_ceil(93),
+            _ => 2 + (length - 182 + 92) / 93,
         };
         assert_eq!(sender::cut(length).len(), formula);
     }
