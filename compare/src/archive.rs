@@ -1,6 +1,7 @@
 //! The archive's calls by the C header, with guards around all that is lent.
 
 use crate::call::{Call, Kind, Outcome};
+use crate::room::Room;
 
 extern "C" {
     fn bg_take_line(
@@ -63,7 +64,7 @@ extern "C" {
 const GUARD: usize = 48;
 
 /// An element that can be lent, with its value in the guard at a place.
-trait Element: Copy + PartialEq {
+pub trait Element: Copy + PartialEq {
     /// What stands at a place of the guard.
     fn guard(place: usize) -> Self;
 }
@@ -80,61 +81,114 @@ impl Element for u32 {
     }
 }
 
-/// Elements lent to the archive, between guards or as an allocation of their own.
-struct Lent<T> {
-    all: Vec<T>,
+/// Where what is lent stands.
+#[derive(Clone, Copy, Debug)]
+pub enum Place {
+    /// Between guard elements, which are looked at after the call.
+    Guarded,
+    /// In an allocation of its own, whose bounds a memory checker sees.
+    Alone,
+    /// Right before a page without access.
+    BeforePage,
+    /// Right after a page without access.
+    AfterPage,
+}
+
+/// What holds the elements lent.
+enum Holder<T> {
+    /// These, with so many guard elements on each side.
+    Elements(Vec<T>, usize),
+    /// This room, from here on.
+    Room(Room, *mut T),
+}
+
+/// Elements lent to the archive.
+pub struct Lent<T> {
+    holder: Holder<T>,
     length: usize,
-    guard: usize,
     null: bool,
 }
 
 impl<T: Element> Lent<T> {
-    /// Copies what is to be lent between guards; without them where `exact`, so that a memory checker sees its bounds.
-    fn new(content: &[T], exact: bool, null: bool) -> Lent<T> {
-        let guard = if exact { 0 } else { GUARD };
+    /// Copies what is to be lent to its place.
+    pub fn new(content: &[T], place: Place, null: bool) -> Lent<T> {
+        let holder = match place {
+            Place::Guarded => Lent::between(content, GUARD),
+            Place::Alone => Lent::between(content, 0),
+            Place::BeforePage | Place::AfterPage => Lent::at_page(content, place),
+        };
+        Lent { holder, length: content.len(), null: null && content.is_empty() }
+    }
+
+    /// Copies what is to be lent between so many guard elements.
+    fn between(content: &[T], guard: usize) -> Holder<T> {
         let mut all = Vec::with_capacity(content.len() + 2 * guard);
         all.extend((0..guard).map(T::guard));
         all.extend_from_slice(content);
         all.extend((guard..2 * guard).map(T::guard));
-        Lent { all, length: content.len(), guard, null: null && content.is_empty() }
+        Holder::Elements(all, guard)
+    }
+
+    /// Copies what is to be lent to a room, to its end or its start.
+    fn at_page(content: &[T], place: Place) -> Holder<T> {
+        let size = std::mem::size_of_val(content);
+        let room = Room::new(size);
+        let first = match place {
+            Place::BeforePage => room.end().wrapping_sub(size) as *mut T,
+            _ => room.start() as *mut T,
+        };
+        // SAFETY: the room has the size; its start and its end are a multiple of every alignment.
+        unsafe { std::ptr::copy_nonoverlapping(content.as_ptr(), first, content.len()) };
+        Holder::Room(room, first)
     }
 
     /// The pointer to what is lent; null where that was asked for and it has no elements.
-    fn pointer(&mut self) -> *mut T {
-        if self.null {
-            return std::ptr::null_mut();
+    pub fn pointer(&mut self) -> *mut T {
+        match &mut self.holder {
+            _ if self.null => std::ptr::null_mut(),
+            Holder::Elements(all, guard) => all[*guard..].as_mut_ptr(),
+            Holder::Room(_, first) => *first,
         }
-        self.all[self.guard..].as_mut_ptr()
     }
 
-    /// Says whether the guards are as they were.
+    /// Says whether the guards are as they were; pages without access guard themselves.
     fn kept(&self) -> bool {
-        let before = &self.all[..self.guard];
-        let after = &self.all[self.guard + self.length..];
-        before.iter().chain(after).enumerate().all(|(place, element)| *element == T::guard(place))
+        match &self.holder {
+            Holder::Elements(all, guard) => {
+                let (before, after) = (&all[..*guard], &all[guard + self.length..]);
+                before.iter().chain(after).enumerate().all(|(place, element)| *element == T::guard(place))
+            }
+            Holder::Room(..) => true,
+        }
     }
 
     /// What was lent, as it is now.
-    fn content(mut self) -> Vec<T> {
-        self.all.truncate(self.guard + self.length);
-        self.all.drain(..self.guard);
-        self.all
+    fn content(self) -> Vec<T> {
+        match self.holder {
+            Holder::Elements(mut all, guard) => {
+                all.truncate(guard + self.length);
+                all.drain(..guard);
+                all
+            }
+            // SAFETY: the elements stand in the room, which is still there.
+            Holder::Room(_room, first) => unsafe { std::slice::from_raw_parts(first, self.length).to_vec() },
+        }
     }
 }
 
-/// Makes a call of the archive.
-pub fn call(call: &Call, exact: bool) -> Outcome {
+/// Makes a call of the archive, with what it is lent at a place.
+pub fn call(call: &Call, place: Place) -> Outcome {
     let shape = call.kind.shape();
     // The out-parameters' first values are free, so the last bit of the last one decides about null.
     let null = call.words.last().map_or(false, |word| word & 1 == 1);
     let mut at = 0;
     let mut words: Vec<Lent<u32>> = Vec::with_capacity(2);
     for (_, length) in shape.words {
-        words.push(Lent::new(&call.words[at..at + length], exact, false));
+        words.push(Lent::new(&call.words[at..at + length], place, false));
         at += length;
     }
     let mut buffers: Vec<Lent<u8>> =
-        call.buffers.iter().map(|buffer| Lent::new(buffer, exact, null)).collect();
+        call.buffers.iter().map(|buffer| Lent::new(buffer, place, null)).collect();
     let numbers = &call.numbers;
     // SAFETY: every pointer is to as many elements as the header asks for, and no two overlap.
     let returned = unsafe {

@@ -1,6 +1,6 @@
 //! A call of the port as plain values, so that it can be made of either program, compared, shrunk and printed.
 
-use crate::archive;
+use crate::archive::{self, Place};
 use second::port;
 use std::fmt::Write;
 
@@ -212,15 +212,17 @@ pub fn by_second(call: &Call) -> Outcome {
     Outcome { returned, words, buffers, fault: None }
 }
 
-/// Makes a call of both programs; gives both outcomes where they differ, else the one.
-pub fn compare(call: &Call, exact: bool) -> Result<Outcome, Box<(Outcome, Outcome)>> {
-    let archive = archive::call(call, exact);
+/// Makes a call of both programs, of the archive once for each place of what is lent; gives both outcomes where they
+/// differ, else the one.
+pub fn compare(call: &Call, places: &[Place]) -> Result<Outcome, Box<(Outcome, Outcome)>> {
     let second = by_second(call);
-    if archive == second {
-        Ok(second)
-    } else {
-        Err(Box::new((archive, second)))
+    for place in places {
+        let archive = archive::call(call, *place);
+        if archive != second {
+            return Err(Box::new((archive, second)));
+        }
     }
+    Ok(second)
 }
 
 /// Bytes in hex, or where there are many their number and the runs of equal bytes.

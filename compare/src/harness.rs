@@ -1,5 +1,6 @@
 //! Makes each comparison, counts it, and reports the first difference.
 
+use crate::archive::Place;
 use crate::call::{compare, show, show_difference, Call, Kind, Outcome};
 use crate::shrink::shrink;
 use std::collections::BTreeMap;
@@ -43,9 +44,9 @@ extern "C" fn on_signal(number: i32) {
 }
 
 /// Compares one call, which is reported if the archive ends the process by it.
-fn watched(call: &Call, exact: bool) -> Result<Outcome, Box<(Outcome, Outcome)>> {
+fn watched(call: &Call, places: &[Place]) -> Result<Outcome, Box<(Outcome, Outcome)>> {
     CURRENT.store(call as *const Call as *mut Call, Ordering::Relaxed);
-    let answer = compare(call, exact);
+    let answer = compare(call, places);
     CURRENT.store(std::ptr::null_mut(), Ordering::Relaxed);
     answer
 }
@@ -70,7 +71,7 @@ fn answer_of(call: &Call, outcome: &Outcome) -> (&'static str, &'static str, Opt
 
 /// The counts of a run, by kind of input.
 pub struct Harness {
-    pub exact: bool,
+    places: &'static [Place],
     seed: u64,
     counts: Vec<(&'static str, u64)>,
     answers: BTreeMap<(&'static str, &'static str, Option<u32>), u64>,
@@ -80,14 +81,22 @@ pub struct Harness {
 }
 
 impl Harness {
-    /// A run with nothing compared yet.
-    pub fn new(seed: u64, exact: bool) -> Harness {
+    /// A run with nothing compared yet, that lends at each of these places.
+    pub fn new(seed: u64, places: &'static [Place]) -> Harness {
         for (number, _) in SIGNALS {
             // SAFETY: installs a handler that only reads and ends.
             unsafe { signal(number, on_signal as *const () as usize) };
         }
         let now = Instant::now();
-        Harness { exact, seed, counts: Vec::new(), answers: BTreeMap::new(), kind: 0, began: now, shown: now }
+        Harness {
+            places,
+            seed,
+            counts: Vec::new(),
+            answers: BTreeMap::new(),
+            kind: 0,
+            began: now,
+            shown: now,
+        }
     }
 
     /// Names the kind of input that the next comparisons are of.
@@ -113,7 +122,7 @@ impl Harness {
                 eprintln!("{:>9} comparisons, {:.0} s", self.total(), self.began.elapsed().as_secs_f64());
             }
         }
-        match watched(&call, self.exact) {
+        match watched(&call, self.places) {
             Ok(outcome) => {
                 self.counts[self.kind].1 += 1;
                 *self.answers.entry(answer_of(&call, &outcome)).or_default() += 1;
@@ -143,7 +152,7 @@ impl Harness {
             self.counts[self.kind].0,
             self.seed
         );
-        match watched(call, self.exact) {
+        match watched(call, self.places) {
             Ok(_) => {
                 println!("made a second time the programs agree: the archive keeps something between calls");
                 println!("{}{}", show(call), show_difference(call, archive, second));
@@ -151,8 +160,8 @@ impl Harness {
             Err(_) => {
                 // SAFETY: sets the alarm clock anew for the shrinking.
                 unsafe { alarm(PATIENCE) };
-                let (smallest, steps) = shrink(call, |call| watched(call, self.exact).is_err());
-                match watched(&smallest, self.exact) {
+                let (smallest, steps) = shrink(call, |call| watched(call, self.places).is_err());
+                match watched(&smallest, self.places) {
                     Err(outcomes) => {
                         println!("the smallest such input found, in {steps} steps:\n{}", show(&smallest));
                         println!("{}", show_difference(&smallest, &outcomes.0, &outcomes.1));

@@ -1,9 +1,10 @@
 //! Compares the proved update port, by its C archive, with the second program: what each call returns, its
-//! out-parameters, its records and every lent byte, with guards around all that is lent.
+//! out-parameters, its records and every lent byte, with guards around all that is lent, or pages without access.
 
 mod archive;
 mod call;
 mod exchange;
+mod guard_check;
 mod harness;
 mod lines;
 mod maps;
@@ -11,21 +12,26 @@ mod paper;
 mod replies;
 mod requests;
 mod rng;
+mod room;
 mod sends;
 mod shrink;
 mod systematic;
 mod writers;
 
+use archive::Place;
 use harness::Harness;
 use rng::Rng;
 
 const HELP: &str = "compare: compares the archive libport.a with the second program
 
-  --seed N    the generator's seed (default 1)
-  --count N   how many comparisons to make, at least (default 5000000)
-  --exact     lend each buffer as an allocation of its own without guards, and null where it is
-              empty, for a run under a memory checker
-  --help      this text
+  --seed N       the generator's seed (default 1)
+  --count N      how many comparisons to make, at least (default 5000000)
+  --exact        make each call with each buffer right before a page without access, and once more
+                 with each right after one, so that a touch outside ends the program
+  --alone        lend each buffer as an allocation of its own without guards, for a run under a
+                 memory checker
+  --guard-check  only try that a touch outside what --exact lends ends the program
+  --help         this text
 
 Prints progress, then how many comparisons of each kind were made and what they answered. On a difference it prints the
 smallest failing input that it finds, with both answers, and exits with status 1.";
@@ -56,13 +62,15 @@ fn number(option: &str, value: Option<String>) -> u64 {
 
 /// Reads the options and makes the comparisons.
 fn main() {
-    let (mut seed, mut count, mut exact) = (1, 5_000_000, false);
+    let (mut seed, mut count, mut places) = (1, 5_000_000, &[Place::Guarded][..]);
     let mut words = std::env::args().skip(1);
     while let Some(word) = words.next() {
         match word.as_str() {
             "--seed" => seed = number("--seed", words.next()),
             "--count" => count = number("--count", words.next()),
-            "--exact" => exact = true,
+            "--exact" => places = &[Place::BeforePage, Place::AfterPage],
+            "--alone" => places = &[Place::Alone],
+            "--guard-check" => return guard_check::run(),
             "--help" | "-h" => {
                 println!("{HELP}");
                 return;
@@ -73,7 +81,7 @@ fn main() {
             }
         }
     }
-    let mut harness = Harness::new(seed, exact);
+    let mut harness = Harness::new(seed, places);
     paper::run(&mut harness);
     if count >= 500_000 {
         systematic::run(&mut harness, &mut Rng::new(seed, 1));
