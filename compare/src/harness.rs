@@ -16,7 +16,17 @@ extern "C" {
     fn signal(number: i32, handler: usize) -> usize;
     fn alarm(seconds: u32) -> u32;
     fn _exit(status: i32) -> !;
+    fn compare_signal(number: i32);
 }
+
+// The handler of signals: aligns the stack, which qemu 7.2 does not for a handler, and goes on in `on_signal`.
+std::arch::global_asm!(
+    ".globl compare_signal",
+    "compare_signal:",
+    "and rsp, -16",
+    "call compare_on_signal",
+    "ud2",
+);
 
 const SIGNALS: [(i32, &str); 6] = [
     (4, "an illegal instruction"),
@@ -31,7 +41,8 @@ const SIGNALS: [(i32, &str); 6] = [
 const PATIENCE: u32 = 120;
 
 /// Reports the call under way when a signal comes, and ends.
-extern "C" fn on_signal(number: i32) {
+#[export_name = "compare_on_signal"]
+extern "C" fn on_signal(number: i32) -> ! {
     let what = SIGNALS.iter().find(|(known, _)| *known == number).map_or("a signal", |(_, what)| what);
     let call = CURRENT.load(Ordering::Relaxed);
     eprintln!("\nDIFFERENCE: {what} in comparison {}", MADE.load(Ordering::Relaxed) + 1);
@@ -85,7 +96,7 @@ impl Harness {
     pub fn new(seed: u64, places: &'static [Place]) -> Harness {
         for (number, _) in SIGNALS {
             // SAFETY: installs a handler that only reads and ends.
-            unsafe { signal(number, on_signal as *const () as usize) };
+            unsafe { signal(number, compare_signal as *const () as usize) };
         }
         let now = Instant::now();
         Harness {

@@ -18,7 +18,7 @@ const PAGES: usize = 65_536;
 
 thread_local! {
     /// Rooms not in use, each by its mapping and size: to make one takes longer than a call.
-    static SPARE: RefCell<Vec<(*mut u8, usize)>> = RefCell::new(Vec::new());
+    static SPARE: RefCell<Vec<(*mut u8, usize)>> = const { RefCell::new(Vec::new()) };
 }
 
 /// Whole pages with access, between pages without.
