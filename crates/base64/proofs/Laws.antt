@@ -9,7 +9,7 @@ use mathlib.Core.List.{List, [], _∷_, _++_, append-nil}
 use mathlib.Core.Option.{Option, none, some}
 use lib.ListN.{length, length-append}
 use lib.Dec.{ltb, eqb, lit<}
-use borrow.Author.Tests.{ltb-true, eqb-true, eqb-false, lt-ltb, le-leb, lt-leb, eq-eqb, ne-eqb}
+use borrow.Author.Tests.{ltb-true, eqb-true, lt-ltb, le-leb, lt-leb, eq-eqb, ne-eqb}
 use Rattle.laws.specs.Choice.{pick, both}
 use Rattle.laws.specs.Bytes.{Bytes}
 use Rattle.laws.proofs.Choice.{pick-yes, pick-no, pick-case, pick-keep, both-yes, both-true}
@@ -31,26 +31,17 @@ one-of f (suc n) k e h =
     elim (decLt k n) [ yes l ↦ one-of f n k (w .1) l | no l ↦ (let same : k ≡ n = omega arith in rw same (w .0)) ]
 
 -- the character of a number stands for that number
-pub char-value : (v : ℕ) → v < 64 → value (char v) ≡ v
+char-value : (v : ℕ) → v < 64 → value (char v) ≡ v
 unfolding char value pick both every
 char-value v h = eqb-true (value (char v)) v (one-of (λ (v : ℕ). eqb (value (char v)) v) 64 v refl h)
 
 -- no number's character is the one that fills the last group
-pub char-other : (v : ℕ) → v < 64 → eqb (char v) pad ≡ false
+char-other : (v : ℕ) → v < 64 → eqb (char v) pad ≡ false
 unfolding char pick every both
 char-other v h = ne-eqb (char v) pad (λ e. absurd (false≢true (sym (eqb-true-false (char v) e) ∙ one-of (λ (v : ℕ). pick (eqb (char v) 61) false true) 64 v refl h)))
   where
     eqb-true-false : (c : ℕ) → c ≡ 61 → pick (eqb c 61) false true ≡ false
     eqb-true-false c e = rw (eq-eqb c 61 e) refl
-
--- the same as a statement
-pub char-not-pad : (v : ℕ) → v < 64 → char v ≡ pad → ⊥
-char-not-pad v h = eqb-false (char v) pad (char-other v h)
-
--- the filling character stands for no number
-pub value-pad : value pad ≡ 64
-unfolding value pick both
-value-pad = refl
 
 -- a number of 123 or more is the number of no character that stands for anything
 far : (c : ℕ) → 123 ≤ c → value c ≡ 64
@@ -69,7 +60,7 @@ near c l h = eqb-true (char (value c)) c (chosen (ltb (value c) 64) (eqb (char (
     chosen false u e f = absurd (false≢true e)
 
 -- a character that stands for a number is that number's character
-pub value-char : (c : ℕ) → value c < 64 → char (value c) ≡ c
+value-char : (c : ℕ) → value c < 64 → char (value c) ≡ c
 value-char c h =
     elim (decLt c 123) [
       | yes l ↦ near c l h
@@ -184,7 +175,7 @@ known-all a b c d e =
     (ltb-true (value a) 64 (w .0), ltb-true (value b) 64 (v .0), ltb-true (value c) 64 (u .0), ltb-true (value d) 64 (u .1))
 
 -- four numbers are those of their three bytes, so their characters come back
-pub encode-three : (a b c d : ℕ) (s : List ℕ) → full a b c d ≡ true → encode (three a b c d ++ s) ≡ a ∷ b ∷ c ∷ d ∷ encode s
+encode-three : (a b c d : ℕ) (s : List ℕ) → full a b c d ≡ true → encode (three a b c d ++ s) ≡ a ∷ b ∷ c ∷ d ∷ encode s
 unfolding three encode
 encode-three a b c d s e =
     let k = known-all a b c d e in
@@ -212,7 +203,7 @@ module _ (P : ℕ → ℕ → ℕ → ℕ → List ℕ → Type 0) where
       rw same at (f (w .0))
 
   -- the principle, by the tests of a last group
-  pub final-elim : ((a b : ℕ) → value a < 64 → value b < 64 → value b % 16 ≡ 0 → P a b pad pad (first (value a) (value b) ∷ [])) → ((a b c : ℕ) → value a < 64 → value b < 64 → value c < 64 → value c % 4 ≡ 0 → P a b c pad (first (value a) (value b) ∷ second (value b) (value c) ∷ [])) → ((a b c d : ℕ) → full a b c d ≡ true → P a b c d (three a b c d)) → (a b c d : ℕ) (x : List ℕ) → final a b c d ≡ some x → P a b c d x
+  final-elim : ((a b : ℕ) → value a < 64 → value b < 64 → value b % 16 ≡ 0 → P a b pad pad (first (value a) (value b) ∷ [])) → ((a b c : ℕ) → value a < 64 → value b < 64 → value c < 64 → value c % 4 ≡ 0 → P a b c pad (first (value a) (value b) ∷ second (value b) (value c) ∷ [])) → ((a b c d : ℕ) → full a b c d ≡ true → P a b c d (three a b c d)) → (a b c d : ℕ) (x : List ℕ) → final a b c d ≡ some x → P a b c d x
   unfolding final
   final-elim one two all a b c d x =
       pick-case (λ (o : Option (List ℕ)). o ≡ some x → P a b c d x) (eqb d pad) _ _
@@ -258,7 +249,7 @@ encode-final = final-elim (λ (a b c d : ℕ) (x : List ℕ). encode x ≡ a ∷
 -- what holds of the bytes of each last group, and of a full group's bytes before those of which it holds, holds of all that decodes
 module _ (P : List ℕ → List ℕ → Type 0) (last : (a b c d : ℕ) (x : List ℕ) → final a b c d ≡ some x → P (a ∷ b ∷ c ∷ d ∷ []) x) (more : (a b c d : ℕ) (t x : List ℕ) → 0 < length t → full a b c d ≡ true → decode t ≡ some x → P t x → P (a ∷ b ∷ c ∷ d ∷ t) (three a b c d ++ x)) where
   -- the principle, group by group
-  pub decode-elim : (t x : List ℕ) → decode t ≡ some x → P t x
+  decode-elim : (t x : List ℕ) → decode t ≡ some x → P t x
   unfolding decode
   decode-elim [] x e = absurd (none-some x e)
   decode-elim (a ∷ []) x e = absurd (none-some x e)
@@ -313,14 +304,7 @@ final-length =
     (λ a b c ha hb hc z. omega arith)
     (λ a b c d f. omega (arith, three-length a b c d))
 
--- what decodes has one byte at least
-pub decode-some : (t x : List ℕ) → decode t ≡ some x → 0 < length x
-decode-some =
-    decode-elim (λ (t x : List ℕ). 0 < length x)
-    (λ a b c d x e. final-length a b c d x e .0)
-    (λ a b c d t x some-text f e h. omega (arith, length-append (three a b c d) x, three-length a b c d))
-
--- and three bytes at most for each four characters
+-- what decodes has three bytes at most for each four characters
 pub decode-length : (t x : List ℕ) → decode t ≡ some x → length x ≤ length t / 4 * 3
 decode-length =
     decode-elim (λ (t x : List ℕ). length x ≤ length t / 4 * 3)
@@ -334,29 +318,6 @@ encode-length [] = refl
 encode-length (a ∷ []) = refl
 encode-length (a ∷ b ∷ []) = refl
 encode-length (a ∷ b ∷ c ∷ s) = omega (arith, encode-length s)
-
--- a number's character is a byte
-char-small : (v : ℕ) → char v < 256
-unfolding char
-char-small v =
-    pick-case (λ (n : ℕ). n < 256) (ltb v 26) _ _ (λ e. omega (arith, ltb-true v 26 e))
-    (λ e. pick-case (λ (n : ℕ). n < 256) (ltb v 52) _ _ (λ e. omega (arith, ltb-true v 52 e))
-    (λ e. pick-case (λ (n : ℕ). n < 256) (ltb v 62) _ _ (λ e. omega (arith, ltb-true v 62 e))
-    (λ e. pick-case (λ (n : ℕ). n < 256) (eqb v 62) 43 47 (λ e. lit< tt) (λ e. lit< tt))))
-
--- four bytes before others
-bytes-four : (a b c d : ℕ) (s : List ℕ) → a < 256 → b < 256 → c < 256 → d < 256 → Bytes s → Bytes (a ∷ b ∷ c ∷ d ∷ s)
-bytes-four a b c d s ha hb hc hd h =
-    bytes-cons a (b ∷ c ∷ d ∷ s) ha (bytes-cons b (c ∷ d ∷ s) hb (bytes-cons c (d ∷ s) hc (bytes-cons d s hd h)))
-
--- a text is bytes
-pub encode-bytes : (x : List ℕ) → Bytes x → Bytes (encode x)
-unfolding encode
-encode-bytes [] h = bytes-none
-encode-bytes (a ∷ []) h = bytes-four _ _ pad pad [] (char-small _) (char-small _) (lit< tt) (lit< tt) bytes-none
-encode-bytes (a ∷ b ∷ []) h = bytes-four _ _ _ pad [] (char-small _) (char-small _) (char-small _) (lit< tt) bytes-none
-encode-bytes (a ∷ b ∷ c ∷ s) h =
-    bytes-four _ _ _ _ (encode s) (char-small _) (char-small _) (char-small _) (char-small _) (encode-bytes s (λ (i : ℕ). h (suc (suc (suc i)))))
 
 -- a text that decodes is in groups of four
 pub decode-groups : (t x : List ℕ) → decode t ≡ some x → length t % 4 ≡ 0
