@@ -40,8 +40,8 @@ unfoldable pub marked : ℕ → ℕ → List ℕ → Bool
 marked a b line = both (eqb (getD line 0 0) a) (eqb (getD line 1 0) b)
 
 -- a line begins with a marker
-abbrev pub begins : List ℕ → List ℕ → Bool
-begins marker line = marked (getD marker 0 0) (getD marker 1 0) line
+abbrev pub beginsWith : List ℕ → List ℕ → Bool
+beginsWith marker line = marked (getD marker 0 0) (getD marker 1 0) line
 
 -- a line ends with 0A
 unfoldable pub ended : List ℕ → Bool

@@ -15,12 +15,11 @@ use Rattle.laws.proofs.Choice.{pick-yes, pick-no, pick-same, both-yes, both-no,
 use Rattle.laws.proofs.Lists.{pasted-none, pasted-take}
 use Rattle.crc.specs.Crc.{crcOf}
 use Rattle.reader.specs.declared.Reader.the-variants.{Idle, Open}
-use Rattle.reader.specs.Reader.{more, body, keeping, dropping, possible, bodyOf, crcBytes, filled, waiting, completed, absorb, begin, resume, begun, resumed, takeLine}
+use Rattle.reader.specs.Reader.{more, body, keeping, dropping, possible, bodyOf, crcBytes, filled, waiting, completed, absorb, begin, resume, begun, resumed, framed, takeLine}
 use Rattle.reader.specs.declared.Reader.{Reader}
-use Rattle.frame.specs.Line.{marked, ended, textOf}
+use Rattle.frame.specs.Line.{longest, newline, initial, partial, marked, beginsWith, ended, textOf}
 use Rattle.base64.specs.Base64.{decode}
 use Rattle.laws.specs.Choice.{pick}
-use Rattle.reader.specs.Frame.{framed}
 
 -- the CRC bytes stand in x after the body
 pub crc-in-frame : (total come first : ℕ) (x : List ℕ) (i : ℕ) → come ≤ total - 2 → getD (crcBytes total come first x) i 0 ≡ getD x (total - 2 - come + i) 0
@@ -104,17 +103,21 @@ unfolding possible
 possible-is total come h k l = simp (le-leb _ _ h, le-leb _ _ k, lt-ltb _ _ l, both-yes)
 
 -- a partial frame: no packet open, an impossible record, and a possible one
-pub resume-idle : (raw p : List ℕ) → resume Idle raw p ≡ keeping 5 Idle p
+pub resume-idle : (r : Reader) → r ≡ Idle → (raw p : List ℕ) → keeping 5 r p ≡ resume r raw p
 unfolding resume
-resume-idle raw p = refl
+resume-idle r e raw p = rw e
 
-pub resume-impossible : (total come first : ℕ) (raw p : List ℕ) → possible total come ≡ false → resume (Open total come first) raw p ≡ keeping 5 (Open total come first) p
+pub resume-impossible : (r : Reader) (total come first : ℕ) → r ≡ Open total come first → possible total come ≡ false
+    → (raw p : List ℕ)
+    → keeping 5 (Open total come first) p ≡ resume r raw p
 unfolding resume
-resume-impossible total come first raw p h = simp (h, pick-no)
+resume-impossible r total come first e h raw p = rw (e, h, pick-no)
 
-pub resume-possible : (total come first : ℕ) (raw p : List ℕ) → possible total come ≡ true → resume (Open total come first) raw p ≡ absorb total come first raw p
+pub resume-possible : (r : Reader) (total come first : ℕ) → r ≡ Open total come first → possible total come ≡ true
+    → (raw p : List ℕ)
+    → absorb total come first raw p ≡ resume r raw p
 unfolding resume
-resume-possible total come first raw p h = simp (h, pick-yes)
+resume-possible r total come first e h raw p = rw (e, h, pick-yes)
 
 -- an initial frame: too short, a small total, and a packet that begins
 pub begin-short : (raw p : List ℕ) → length raw < 2 → begin raw p ≡ dropping 6 p
@@ -129,18 +132,20 @@ pub begin-packet : (raw p : List ℕ) → 2 ≤ length raw → 10 ≤ ofBe16 raw
 unfolding begin
 begin-packet raw p h k = simp (le-ltb _ _ h, le-ltb _ _ k, pick-no)
 
--- a frame whose text is not well formed, an initial one, and a partial one
-pub framed-bad : (initial : Bool) (r : Reader) (text : Option (List ℕ)) (p : List ℕ) → text ≡ none → framed initial r text p ≡ dropping 4 p
-unfolding framed begun resumed
-framed-bad initial r text p e = rw e (pick-same initial (dropping 4 p))
+-- a frame whose text is not well formed
+pub framed-bad : (initial : Bool) (r : Reader) (p : List ℕ) → framed initial r none p ≡ dropping 4 p
+unfolding begun resumed
+framed-bad true r p = refl
+framed-bad false r p = refl
 
-pub framed-initial : (initial : Bool) (r : Reader) (text : Option (List ℕ)) (raw p : List ℕ) → initial ≡ true → text ≡ some raw → framed initial r text p ≡ begin raw p
-unfolding framed begun
-framed-initial initial r text raw p e f = rw (e, f, pick-yes)
+-- an initial frame, and a partial one
+pub framed-initial : (r : Reader) (raw p : List ℕ) → framed true r (some raw) p ≡ begin raw p
+unfolding begun
+framed-initial r raw p = refl
 
-pub framed-partial : (initial : Bool) (r : Reader) (text : Option (List ℕ)) (raw p : List ℕ) → initial ≡ false → text ≡ some raw → framed initial r text p ≡ resume r raw p
-unfolding framed resumed
-framed-partial initial r text raw p e f = rw (e, f, pick-no)
+pub framed-partial : (r : Reader) (raw p : List ℕ) → framed false r (some raw) p ≡ resume r raw p
+unfolding resumed
+framed-partial r raw p = refl
 
 -- a line's marker, by its two bytes
 pub marked-both : (a b : ℕ) (line : List ℕ) → getD line 0 0 ≡ a → eqb (getD line 1 0) b ≡ marked a b line
@@ -151,31 +156,41 @@ pub marked-not : (a b : ℕ) (line : List ℕ) → (getD line 0 0 ≡ a → ⊥)
 unfolding marked
 marked-not a b line h = simp (ne-eqb _ _ h, both-no)
 
--- a line that is too long, too short, not ended, or has no marker
-pub line-long : (r : Reader) (line p : List ℕ) → 127 < length line → takeLine r line p ≡ keeping 2 r p
+-- a line that is too long, too short, or not ended
+pub line-long : (r : Reader) (line p : List ℕ) → longest < length line → takeLine r line p ≡ keeping 2 r p
 unfolding takeLine
 line-long r line p h = simp (lt-ltb _ _ h, pick-yes)
 
 pub line-short : (r : Reader) (line p : List ℕ) → length line < 3 → takeLine r line p ≡ keeping 3 r p
 unfolding takeLine
 line-short r line p h =
-    let n : length line ≤ 127 = omega arith in
+    let n : length line ≤ longest = omega arith in
     simp (le-ltb _ _ n, pick-no, lt-ltb _ _ h, pick-yes)
 
-pub line-unended : (r : Reader) (line p : List ℕ) → 3 ≤ length line → length line ≤ 127 → (getD line (length line - 1) 0 ≡ 0x0A → ⊥) → takeLine r line p ≡ keeping 3 r p
+pub line-unended : (r : Reader) (line p : List ℕ) → 3 ≤ length line → length line ≤ longest
+    → (getD line (length line - 1) 0 ≡ newline → ⊥)
+    → takeLine r line p ≡ keeping 3 r p
 unfolding takeLine ended
 line-unended r line p h k e = simp (le-ltb _ _ k, le-ltb _ _ h, pick-no, ne-eqb _ _ e, pick-yes)
 
--- a line that passes: by its marker
-pub line-marked : (r : Reader) (line p : List ℕ) → 3 ≤ length line → length line ≤ 127 → getD line (length line - 1) 0 ≡ 0x0A
-    → takeLine r line p
-    ≡ pick (marked 0x06 0x09 line) (framed true r (decode (textOf line)) p)
-    (pick (marked 0x04 0x14 line) (framed false r (decode (textOf line)) p)
-    (keeping 3 r p))
-unfolding takeLine ended framed
-line-marked r line p h k e = simp (le-ltb _ _ k, le-ltb _ _ h, pick-no, eq-eqb _ _ e, pick-yes)
+-- a line that passes these tests: by its marker, or with none
+module _ (r : Reader) (line p : List ℕ) (low : 3 ≤ length line) (high : length line ≤ longest) (end : getD line (length line - 1) 0 ≡ newline) where
+  by-marker : takeLine r line p
+      ≡ pick (beginsWith initial line) (framed true r (decode (textOf line)) p)
+      (pick (beginsWith partial line) (framed false r (decode (textOf line)) p)
+      (keeping 3 r p))
+  unfolding takeLine ended
+  by-marker = simp (le-ltb _ _ high, le-ltb _ _ low, pick-no, eq-eqb _ _ end)
 
--- a line of 127 bytes has a text of 124
+  pub line-framed : (first : Bool) → first ≡ beginsWith initial line → (first ≡ false → beginsWith partial line ≡ true)
+      → takeLine r line p ≡ framed first r (decode (textOf line)) p
+  line-framed true e f = by-marker ∙ rw (← e, pick-yes)
+  line-framed false e f = by-marker ∙ rw (← e, pick-no, f refl, pick-yes)
+
+  pub line-unmarked : beginsWith initial line ≡ false → beginsWith partial line ≡ false → takeLine r line p ≡ keeping 3 r p
+  line-unmarked e f = by-marker ∙ rw (e, pick-no, f, pick-no)
+
+-- a text is three bytes shorter than its line
 pub text-size : (line : List ℕ) → length (textOf line) ≤ length line - 3
 unfolding textOf
 text-size line = simp (length-take, length-drop) (omega arith)

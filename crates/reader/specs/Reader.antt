@@ -2,8 +2,8 @@
 -- buffer. The checks stand in the order of the refusals 2 to 9.
 -- Assumes nothing.
 use Prim.Native.Nat.{ℕ, _+_, _-_}
-use mathlib.Core.Bool.{Bool, not}
-use mathlib.Core.List.{List, [], _∷_}
+use mathlib.Core.Bool.{Bool, true, false, not}
+use mathlib.Core.List.{List, _∷_}
 use mathlib.Core.Option.{Option, none, some}
 use lib.Dec.{ltb, leb, eqb}
 use lib.ListN.{length, getD, take, drop}
@@ -12,7 +12,7 @@ use Rattle.laws.specs.Bytes.{pasted, ofBe16}
 use Rattle.refusal.specs.Number.{numberOf}
 use Rattle.crc.specs.Crc.{crcOf}
 use Rattle.base64.specs.Base64.{decode}
-use Rattle.frame.specs.Line.{marked, ended, textOf}
+use Rattle.frame.specs.Line.{longest, initial, partial, beginsWith, ended, textOf}
 use Rattle.reader.specs.declared.Reader.{Reader}
 use Rattle.reader.specs.declared.Reader.the-variants.{Idle, Open}
 use Rattle.reader.specs.declared.Answer.{Answer}
@@ -109,12 +109,17 @@ unfoldable pub resumed : Option (List ℕ) → Reader → List ℕ → Outcome
 resumed none r p = dropping 4 p
 resumed (some raw) r p = resume r raw p
 
+-- a frame by its marker, its text decoded or not: an initial one begins a packet, a partial one goes on with the open one
+abbrev pub framed : Bool → Reader → Option (List ℕ) → List ℕ → Outcome
+framed true r text p = begun text p
+framed false r text p = resumed text r p
+
 -- a line is taken: refusals 2 and 3, then by its marker
 unfoldable pub takeLine : Reader → List ℕ → List ℕ → Outcome
 takeLine r line p =
-    pick (ltb 127 (length line)) (keeping 2 r p)
+    pick (ltb longest (length line)) (keeping 2 r p)
     (pick (ltb (length line) 3) (keeping 3 r p)
     (pick (not (ended line)) (keeping 3 r p)
-    (pick (marked 0x06 0x09 line) (begun (decode (textOf line)) p)
-    (pick (marked 0x04 0x14 line) (resumed (decode (textOf line)) r p)
+    (pick (beginsWith initial line) (framed true r (decode (textOf line)) p)
+    (pick (beginsWith partial line) (framed false r (decode (textOf line)) p)
     (keeping 3 r p)))))
