@@ -8,6 +8,7 @@ use borrow.Author.Tests.{ne-eqb}
 use lib.ListN.{length, take, drop, replicate, length-take}
 use lib.Seq.{take-all, take-at, drop-at}
 use Rattle.laws.specs.Bytes.{Bytes, pasted, be16, ofBe16}
+use Rattle.laws.specs.Table.{tab}
 use Rattle.laws.proofs.Choice.{pick-yes, pick-no}
 use Rattle.laws.proofs.Lists.{be16-back}
 use Rattle.crc.specs.Crc.{crcOf}
@@ -16,9 +17,10 @@ use Rattle.reader.specs.declared.Reader.{Reader}
 use Rattle.reader.specs.declared.Reader.the-variants.{Idle}
 use Rattle.reader.specs.Reader.{Said, more, body, begin, takeLine}
 use Rattle.sender.specs.Sender.{frameCount, startOf, stopOf, pieceOf, frameOf}
-use Rattle.roundtrip.specs.RoundTrip.{framesFrom, frames, saying, feed, hearing, heard, RoundTrip}
+use Rattle.reader.specs.Lines.{saying, feed, hearing, heard}
+use Rattle.roundtrip.specs.RoundTrip.{frames, RoundTrip}
 use Rattle.roundtrip.specs.Standing.{afterTotal, standing, holding, whole}
-use Rattle.roundtrip.proofs.Noise.{without-noise}
+use Rattle.reader.proofs.Lines.{without-noise}
 use Rattle.roundtrip.proofs.Step.{holding-none, holding-length, initial-step, partial-step, whole-more, whole-body}
 use Rattle.sender.proofs.Count.{count-some, start-is, start-first, stop-next, stop-last}
 use Rattle.roundtrip.proofs.Pieces.{after-length, piece-first, piece-joined, piece-length, piece-bytes}
@@ -134,9 +136,9 @@ module _ (s q : List ℕ) (bytes : Bytes s) (low : 8 ≤ length s) (high : lengt
 
   -- the answers to the frames from number k on, with no noise
   run : (m k : ℕ) (r : Reader) → k + suc m ≡ frameCount (length s) → (0 < k → r ≡ opened s k)
-      → feed (framesFrom s k (suc m)) r (held s k q)
+      → feed (tab (frameOf s) k (suc m)) r (held s k q)
       ≡ record { says = replicate m more ++ (body (length s) ∷ []); reader = Idle; buffer = pasted q 0 s }
-  unfolding feed saying framesFrom
+  unfolding feed saying tab
   run zero k r e f = rw (last-taken k r e f)
   run (suc m) k r e f =
       rw (next-taken k r (omega arith) f)

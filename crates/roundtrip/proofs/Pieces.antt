@@ -10,6 +10,7 @@ use lib.Seq.{take-add}
 use Rattle.laws.specs.Bytes.{Bytes, be16}
 use Rattle.laws.proofs.Lists.{take-past, drop-past, bytes-join, bytes-take, bytes-drop, be16-bytes}
 use Rattle.crc.specs.Crc.{crcOf}
+use Rattle.frame.specs.Line.{rawMost}
 use Rattle.sender.specs.Sender.{frameCount, rawOf, startOf, stopOf, pieceOf}
 use Rattle.roundtrip.specs.Standing.{afterTotal}
 use Rattle.sender.proofs.Count.{count-some, start-first, start-later, piece-size}
@@ -20,7 +21,7 @@ unfolding be16
 after-length s = length-append s (be16 (crcOf s))
 
 -- a packet has four bytes more than its body
-pub raw-length : (s : List ℕ) → length (rawOf s) ≡ length s + 4
+raw-length : (s : List ℕ) → length (rawOf s) ≡ length s + 4
 unfolding be16 rawOf
 raw-length s = simp length-append (omega arith)
 
@@ -45,8 +46,8 @@ piece-joined s k h l =
     let e : startOf (length s) k - 2 + (stopOf (length s) k - startOf (length s) k) ≡ stopOf (length s) k - 2 = omega arith in
     rw (piece-later s k h, ← e) (sym (take-add (startOf (length s) k - 2) (stopOf (length s) k - startOf (length s) k) (afterTotal s)))
 
--- a frame carries 1 to 93 raw bytes
-pub piece-length : (s : List ℕ) (k : ℕ) → k < frameCount (length s) → (0 < length (pieceOf s k)) × (length (pieceOf s k) ≤ 93)
+-- a frame carries a raw byte at least, and at most those of a full one
+pub piece-length : (s : List ℕ) (k : ℕ) → k < frameCount (length s) → (0 < length (pieceOf s k)) × (length (pieceOf s k) ≤ rawMost)
 unfolding pieceOf
 piece-length s k l =
     let size = piece-size (length s) k l in

@@ -17,10 +17,10 @@ use Rattle.laws.proofs.Lists.{take-past, drop-past, pasted-twice, pasted-length
 use Rattle.crc.specs.Crc.{crcOf}
 use Rattle.base64.specs.Base64.{encode}
 use Rattle.base64.proofs.Laws.{encode-length}
-use Rattle.frame.specs.Line.{initial, partial, frame}
-use Rattle.sender.specs.Sender.{frameCount, rawOf, startOf, stopOf, pieceOf, frameOf, sendable, frameIs, refused, sendFrame}
+use Rattle.frame.specs.Line.{longest, longestText, newline, rawMost, initial, partial, frame}
+use Rattle.sender.specs.Sender.{frameCount, rawOf, startOf, stopOf, pieceOf, markerOf, frameOf, sendable, frameIs, refused, sendFrame}
 use Rattle.sender.proofs.Count.{stop-last, stop-other, start-is, start-first, piece-size}
-use Rattle.sender.specs.Piece.{headOf, fromOf, toOf, middleOf, tailOf, markerOf}
+use Rattle.sender.specs.Inner.{headOf, fromOf, toOf, middleOf, tailOf}
 
 -- the three parts at each way of their tests
 pub head-first : (b k : ℕ) → k ≡ 0 → headOf b k ≡ be16 (b + 2)
@@ -137,8 +137,8 @@ piece-parts s (suc k) =
     ∙ piece-rest s (suc k)
     ∙ ap (λ (l : List ℕ). l ++ (middleOf s (suc k) ++ tailOf s (suc k))) (sym (head-later (length s) (suc k) (suc-ne-zero k)))
 
--- a frame's raw bytes are 93 at most
-pub piece-length : (s : List ℕ) (k : ℕ) → k < frameCount (length s) → length (pieceOf s k) ≤ 93
+-- a frame's raw bytes are at most those of a full one
+pub piece-length : (s : List ℕ) (k : ℕ) → k < frameCount (length s) → length (pieceOf s k) ≤ rawMost
 unfolding pieceOf
 piece-length s k l = simp length-take (omega (arith, piece-size (length s) k l .1))
 
@@ -182,7 +182,7 @@ marker-length k = pick-case (λ (m : List ℕ). length m ≡ 2) (eqb k 0) initia
 pub line-parts : (k : ℕ) (raw m m₁ m₂ : List ℕ) (n : ℕ) → length (encode raw) + 3 ≤ length m → m₁ ≡ pasted m 0 (markerOf k)
     → n ≡ length (encode raw)
     → m₂ ≡ pasted m₁ 2 (encode raw)
-    → (2 + n + 1 ≡ length (frame (markerOf k) raw)) × (set m₂ (2 + n) 0x0A ≡ pasted m 0 (frame (markerOf k) raw)) × (length m₂ ≡ length m)
+    → (2 + n + 1 ≡ length (frame (markerOf k) raw)) × (set m₂ (2 + n) newline ≡ pasted m 0 (frame (markerOf k) raw)) × (length m₂ ≡ length m)
 unfolding frame
 line-parts k raw m m₁ m₂ n room p₁ e p₂ =
     let a = markerOf k in
@@ -191,16 +191,16 @@ line-parts k raw m m₁ m₂ n room p₁ e p₂ =
     let ahead : length (a ++ t) ≡ 2 + n = rw (length-append a t) (omega arith) in
     let both : m₂ ≡ pasted m 0 (a ++ t) = p₂ ∙ ap₂ (λ (l : List ℕ) (i : ℕ). pasted l i t) p₁ (omega arith) ∙ pasted-twice m 0 a t (omega arith) in
     let size : length m₂ ≡ length m = ap length both ∙ pasted-length m 0 (a ++ t) (omega arith) in (
-      rw (length-append a (t ++ (0x0A ∷ [])), length-append t (0x0A ∷ [])) (omega arith),
-      set-pasted m₂ (2 + n) 0x0A (omega arith)
-          ∙ ap₂ (λ (l : List ℕ) (i : ℕ). pasted l i (0x0A ∷ [])) both (omega arith)
-          ∙ pasted-twice m 0 (a ++ t) (0x0A ∷ []) (omega arith)
-          ∙ ap (λ (l : List ℕ). pasted m 0 l) (append-assoc a t (0x0A ∷ [])),
+      rw (length-append a (t ++ (newline ∷ [])), length-append t (newline ∷ [])) (omega arith),
+      set-pasted m₂ (2 + n) newline (omega arith)
+          ∙ ap₂ (λ (l : List ℕ) (i : ℕ). pasted l i (newline ∷ [])) both (omega arith)
+          ∙ pasted-twice m 0 (a ++ t) (newline ∷ []) (omega arith)
+          ∙ ap (λ (l : List ℕ). pasted m 0 l) (append-assoc a t (newline ∷ [])),
       size,
     )
 
--- the text of 93 raw bytes has 124 characters
-pub text-room : (raw : List ℕ) → length raw ≤ 93 → length (encode raw) ≤ 124
+-- the text of a full frame is the longest
+pub text-room : (raw : List ℕ) → length raw ≤ rawMost → length (encode raw) ≤ longestText
 text-room raw h = omega (arith, encode-length raw)
 
 -- the sender's refusals, and a frame that it sends
@@ -208,7 +208,7 @@ pub send-unsendable : (s : List ℕ) (k : ℕ) (out : List ℕ) → sendable (le
 unfolding sendFrame
 send-unsendable s k out h = simp (h, pick-yes)
 
-pub sendable-small : (b room : ℕ) → room < 127 → sendable b room ≡ false
+pub sendable-small : (b room : ℕ) → room < longest → sendable b room ≡ false
 unfolding sendable
 sendable-small b room h = simp (lt-leb _ _ h, both-no)
 
@@ -220,7 +220,7 @@ pub sendable-long : (b room : ℕ) → 65533 < b → sendable b room ≡ false
 unfolding sendable
 sendable-long b room h = simp (lt-leb _ _ h, both-last-no)
 
-pub sendable-is : (b room : ℕ) → 127 ≤ room → 8 ≤ b → b ≤ 65533 → sendable b room ≡ true
+pub sendable-is : (b room : ℕ) → longest ≤ room → 8 ≤ b → b ≤ 65533 → sendable b room ≡ true
 unfolding sendable
 sendable-is b room h k l = simp (le-leb _ _ h, le-leb _ _ k, le-leb _ _ l, both-yes)
 

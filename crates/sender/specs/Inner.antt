@@ -1,4 +1,5 @@
--- A frame's raw bytes in three parts: the packet's total in frame 0, a run of the body, and the CRC in the last frame.
+-- A frame's raw bytes in three parts: the packet's total in frame 0, a run of the body, and the CRC in the last frame. Only the proofs
+-- need it: no promise to a caller cites it.
 -- Assumes nothing.
 use Prim.Native.Nat.{ℕ, _+_, _-_, min}
 use mathlib.Core.List.{List, []}
@@ -7,7 +8,6 @@ use lib.ListN.{length, take, drop}
 use Rattle.laws.specs.Choice.{pick}
 use Rattle.laws.specs.Bytes.{be16}
 use Rattle.crc.specs.Crc.{crcOf}
-use Rattle.frame.specs.Line.{initial, partial}
 use Rattle.sender.specs.Sender.{frameCount, startOf, stopOf}
 
 -- total, in frame 0
@@ -28,7 +28,3 @@ middleOf s k = take (toOf (length s) k - fromOf (length s) k) (drop (fromOf (len
 -- the CRC, in the last frame
 unfoldable pub tailOf : List ℕ → ℕ → List ℕ
 tailOf s k = pick (eqb (k + 1) (frameCount (length s))) (be16 (crcOf s)) []
-
--- frame k's marker
-abbrev pub markerOf : ℕ → List ℕ
-markerOf k = pick (eqb k 0) initial partial
