@@ -38,7 +38,8 @@ char-value v h = eqb-true (value (char v)) v (one-of (λ (v : ℕ). eqb (value (
 -- no number's character is the one that fills the last group
 char-other : (v : ℕ) → v < 64 → eqb (char v) pad ≡ false
 unfolding char pick every both
-char-other v h = ne-eqb (char v) pad (λ e. absurd (false≢true (sym (eqb-true-false (char v) e) ∙ one-of (λ (v : ℕ). pick (eqb (char v) 61) false true) 64 v refl h)))
+char-other v h =
+    ne-eqb (char v) pad (λ e. absurd (false≢true (sym (eqb-true-false (char v) e) ∙ one-of (λ (v : ℕ). pick (eqb (char v) 61) false true) 64 v refl h)))
   where
     eqb-true-false : (c : ℕ) → c ≡ 61 → pick (eqb c 61) false true ≡ false
     eqb-true-false c e = rw (eq-eqb c 61 e) refl
@@ -47,13 +48,24 @@ char-other v h = ne-eqb (char v) pad (λ e. absurd (false≢true (sym (eqb-true-
 far : (c : ℕ) → 123 ≤ c → value c ≡ 64
 unfolding value
 far c h =
-    rw (le-leb 65 c (omega arith), lt-leb c 90 (omega arith), le-leb 97 c (omega arith), lt-leb c 122 (omega arith), le-leb 48 c (omega arith), lt-leb c 57 (omega arith), ne-eqb c 43 (λ e. omega arith), ne-eqb c 47 (λ e. omega arith))
+    rw (
+      le-leb 65 c (omega arith),
+      lt-leb c 90 (omega arith),
+      le-leb 97 c (omega arith),
+      lt-leb c 122 (omega arith),
+      le-leb 48 c (omega arith),
+      lt-leb c 57 (omega arith),
+      ne-eqb c 43 (λ e. omega arith),
+      ne-eqb c 47 (λ e. omega arith),
+    )
     (simp (both-yes, pick-no))
 
 -- the same for the characters below 123
 near : (c : ℕ) → c < 123 → value c < 64 → char (value c) ≡ c
 unfolding char value pick both every
-near c l h = eqb-true (char (value c)) c (chosen (ltb (value c) 64) (eqb (char (value c)) c) (lt-ltb (value c) 64 h) (one-of (λ (c : ℕ). pick (ltb (value c) 64) (eqb (char (value c)) c) true) 123 c refl l))
+near c l h =
+    eqb-true (char (value c)) c (chosen (ltb (value c) 64) (eqb (char (value c)) c) (lt-ltb (value c) 64 h)
+    (one-of (λ (c : ℕ). pick (ltb (value c) 64) (eqb (char (value c)) c) true) 123 c refl l))
   where
     chosen : (t u : Bool) → t ≡ true → pick t u true ≡ true → u ≡ true
     chosen true u e f = f
@@ -111,7 +123,8 @@ same-third : (b c : ℕ) → b < 256 → c < 256 → third (b % 16 * 4 + c / 64)
 same-third b c k l = omega arith
 
 -- three bytes come back from their four numbers
-bytes-same : (a b c : ℕ) → a < 256 → b < 256 → c < 256 → first (a / 4) (a % 4 * 16 + b / 16) ∷ second (a % 4 * 16 + b / 16) (b % 16 * 4 + c / 64) ∷ third (b % 16 * 4 + c / 64) (c % 64) ∷ [] ≡ a ∷ b ∷ c ∷ []
+bytes-same : (a b c : ℕ) → a < 256 → b < 256 → c < 256
+    → first (a / 4) (a % 4 * 16 + b / 16) ∷ second (a % 4 * 16 + b / 16) (b % 16 * 4 + c / 64) ∷ third (b % 16 * 4 + c / 64) (c % 64) ∷ [] ≡ a ∷ b ∷ c ∷ []
 bytes-same a b c ha hb hc = rw (same-first a b ha hb, same-second a b c ha hb hc, same-third b c hb hc) refl
 
 -- a text of a group and more is that group's bytes before the rest's
@@ -153,7 +166,13 @@ decode-encode (a ∷ b ∷ c ∷ d ∷ s) p h =
     let hb : b < 256 = p 1 in
     let hc : c < 256 = p 2 in
     decode-more (char (a / 4)) (char (a % 4 * 16 + b / 16)) (char (b % 16 * 4 + c / 64)) (char (c % 64)) (encode (d ∷ s)) (encode-some (d ∷ s) (omega arith))
-    ∙ rw (full-chars (a / 4) (a % 4 * 16 + b / 16) (b % 16 * 4 + c / 64) (c % 64) (omega arith) (omega arith) (omega arith) (omega arith), pick-yes, three-chars (a / 4) (a % 4 * 16 + b / 16) (b % 16 * 4 + c / 64) (c % 64) (omega arith) (omega arith) (omega arith) (omega arith), bytes-same a b c ha hb hc, decode-encode (d ∷ s) (λ (i : ℕ). p (suc (suc (suc i)))) (omega arith)) refl
+    ∙ rw (
+      full-chars (a / 4) (a % 4 * 16 + b / 16) (b % 16 * 4 + c / 64) (c % 64) (omega arith) (omega arith) (omega arith) (omega arith),
+      pick-yes,
+      three-chars (a / 4) (a % 4 * 16 + b / 16) (b % 16 * 4 + c / 64) (c % 64) (omega arith) (omega arith) (omega arith) (omega arith),
+      bytes-same a b c ha hb hc,
+      decode-encode (d ∷ s) (λ (i : ℕ). p (suc (suc (suc i)))) (omega arith),
+    ) refl
 
 -- bytes before others, when nothing is not well formed
 ahead-some : (x : List ℕ) (o : Option (List ℕ)) (y : List ℕ) → ahead x o ≡ some y → (s : List ℕ) × ((o ≡ some s) × (y ≡ x ++ s))
@@ -185,7 +204,8 @@ encode-three a b c d s e =
     let hd : value d < 64 = k .3 in
     same-four (value a) (value b) (value c) (value d) a b c d s ha hb hc hd (value-char a ha) (value-char b hb) (value-char c hc) (value-char d hd)
   where
-    same-four : (p q r s a b c d : ℕ) (l : List ℕ) → p < 64 → q < 64 → r < 64 → s < 64 → char p ≡ a → char q ≡ b → char r ≡ c → char s ≡ d → encode (first p q ∷ second q r ∷ third r s ∷ l) ≡ a ∷ b ∷ c ∷ d ∷ encode l
+    same-four : (p q r s a b c d : ℕ) (l : List ℕ) → p < 64 → q < 64 → r < 64 → s < 64 → char p ≡ a → char q ≡ b → char r ≡ c → char s ≡ d
+        → encode (first p q ∷ second q r ∷ third r s ∷ l) ≡ a ∷ b ∷ c ∷ d ∷ encode l
     same-four p q r s a b c d l hp hq hr hs ea eb ec ed =
         let fp : first p q / 4 ≡ p = omega arith in
         let fq : first p q % 4 * 16 + second q r / 16 ≡ q = omega arith in
@@ -203,7 +223,12 @@ module _ (P : ℕ → ℕ → ℕ → ℕ → List ℕ → Type 0) where
       rw same at (f (w .0))
 
   -- the principle, by the tests of a last group
-  final-elim : ((a b : ℕ) → value a < 64 → value b < 64 → value b % 16 ≡ 0 → P a b pad pad (first (value a) (value b) ∷ [])) → ((a b c : ℕ) → value a < 64 → value b < 64 → value c < 64 → value c % 4 ≡ 0 → P a b c pad (first (value a) (value b) ∷ second (value b) (value c) ∷ [])) → ((a b c d : ℕ) → full a b c d ≡ true → P a b c d (three a b c d)) → (a b c d : ℕ) (x : List ℕ) → final a b c d ≡ some x → P a b c d x
+  final-elim : ((a b : ℕ) → value a < 64 → value b < 64 → value b % 16 ≡ 0 → P a b pad pad (first (value a) (value b) ∷ []))
+      → ((a b c : ℕ) → value a < 64 → value b < 64 → value c < 64 → value c % 4 ≡ 0 → P a b c pad (first (value a) (value b) ∷ second (value b) (value c) ∷ []))
+      → ((a b c d : ℕ) → full a b c d ≡ true → P a b c d (three a b c d))
+      → (a b c d : ℕ) (x : List ℕ)
+      → final a b c d ≡ some x
+      → P a b c d x
   unfolding final
   final-elim one two all a b c d x =
       pick-case (λ (o : Option (List ℕ)). o ≡ some x → P a b c d x) (eqb d pad) _ _
@@ -218,7 +243,8 @@ module _ (P : ℕ → ℕ → ℕ → ℕ → List ℕ → Type 0) where
           let v = both-true (known b) (eqb (value b % 16) 0) (w .1) in
           one a b (ltb-true (value a) 64 (w .0)) (ltb-true (value b) 64 (v .0)) (eqb-true (value b % 16) 0 (v .1))
 
-      two-given : (a b c : ℕ) → both (known a) (both (known b) (both (known c) (eqb (value c % 4) 0))) ≡ true → P a b c pad (first (value a) (value b) ∷ second (value b) (value c) ∷ [])
+      two-given : (a b c : ℕ) → both (known a) (both (known b) (both (known c) (eqb (value c % 4) 0))) ≡ true
+          → P a b c pad (first (value a) (value b) ∷ second (value b) (value c) ∷ [])
       two-given a b c t =
           let w = both-true (known a) (both (known b) (both (known c) (eqb (value c % 4) 0))) t in
           let v = both-true (known b) (both (known c) (eqb (value c % 4) 0)) (w .1) in
@@ -236,7 +262,8 @@ encode-final = final-elim (λ (a b c d : ℕ) (x : List ℕ). encode x ≡ a ∷
         let eb : first (value a) (value b) % 4 * 16 ≡ value b = omega arith in
         rw (ea, eb, value-char a ha, value-char b hb) refl
 
-    two : (a b c : ℕ) → value a < 64 → value b < 64 → value c < 64 → value c % 4 ≡ 0 → encode (first (value a) (value b) ∷ second (value b) (value c) ∷ []) ≡ a ∷ b ∷ c ∷ pad ∷ []
+    two : (a b c : ℕ) → value a < 64 → value b < 64 → value c < 64 → value c % 4 ≡ 0
+        → encode (first (value a) (value b) ∷ second (value b) (value c) ∷ []) ≡ a ∷ b ∷ c ∷ pad ∷ []
     two a b c ha hb hc z =
         let ea : first (value a) (value b) / 4 ≡ value a = omega arith in
         let eb : first (value a) (value b) % 4 * 16 + second (value b) (value c) / 16 ≡ value b = omega arith in
@@ -247,7 +274,10 @@ encode-final = final-elim (λ (a b c d : ℕ) (x : List ℕ). encode x ≡ a ∷
     all a b c d e = rw append-nil at (encode-three a b c d [] e)
 
 -- what holds of the bytes of each last group, and of a full group's bytes before those of which it holds, holds of all that decodes
-module _ (P : List ℕ → List ℕ → Type 0) (last : (a b c d : ℕ) (x : List ℕ) → final a b c d ≡ some x → P (a ∷ b ∷ c ∷ d ∷ []) x) (more : (a b c d : ℕ) (t x : List ℕ) → 0 < length t → full a b c d ≡ true → decode t ≡ some x → P t x → P (a ∷ b ∷ c ∷ d ∷ t) (three a b c d ++ x)) where
+module _ (P : List ℕ → List ℕ → Type 0)
+    (last : (a b c d : ℕ) (x : List ℕ) → final a b c d ≡ some x → P (a ∷ b ∷ c ∷ d ∷ []) x)
+    (more : (a b c d : ℕ) (t x : List ℕ) → 0 < length t → full a b c d ≡ true → decode t ≡ some x → P t x
+    → P (a ∷ b ∷ c ∷ d ∷ t) (three a b c d ++ x)) where
   -- the principle, group by group
   decode-elim : (t x : List ℕ) → decode t ≡ some x → P t x
   unfolding decode
@@ -257,7 +287,9 @@ module _ (P : List ℕ → List ℕ → Type 0) (last : (a b c d : ℕ) (x : Lis
   decode-elim (a ∷ b ∷ c ∷ []) x e = absurd (none-some x e)
   decode-elim (a ∷ b ∷ c ∷ d ∷ []) x e = last a b c d x e
   decode-elim (a ∷ b ∷ c ∷ d ∷ f ∷ t) x e =
-      let w : (full a b c d ≡ true) × (ahead (three a b c d) (decode (f ∷ t)) ≡ some x) = pick-keep (full a b c d) (ahead (three a b c d) (decode (f ∷ t))) none (some x) (none-some x) e in
+      let w : (full a b c d ≡ true) × (ahead (three a b c d) (decode (f ∷ t)) ≡ some x) =
+      pick-keep (full a b c d) (ahead (three a b c d) (decode (f ∷ t))) none (some x) (none-some x) e
+      in
       let g : (s : List ℕ) × ((decode (f ∷ t) ≡ some s) × (x ≡ three a b c d ++ s)) = ahead-some (three a b c d) (decode (f ∷ t)) x (w .1) in
       let back : x ≡ three a b c d ++ g .0 = g .1 .1 in
       rw back (more a b c d (f ∷ t) (g .0) (omega arith) (w .0) (g .1 .0) (decode-elim (f ∷ t) (g .0) (g .1 .0)))
@@ -292,7 +324,8 @@ decode-bytes =
     decode-elim (λ (t x : List ℕ). Bytes x)
     (final-elim (λ (a b c d : ℕ) (x : List ℕ). Bytes x)
     (λ a b ha hb z. bytes-cons (first (value a) (value b)) [] (omega arith) bytes-none)
-    (λ a b c ha hb hc z. bytes-cons (first (value a) (value b)) (second (value b) (value c) ∷ []) (omega arith) (bytes-cons (second (value b) (value c)) [] (omega arith) bytes-none))
+    (λ a b c ha hb hc z. bytes-cons (first (value a) (value b)) (second (value b) (value c) ∷ []) (omega arith)
+    (bytes-cons (second (value b) (value c)) [] (omega arith) bytes-none))
     three-bytes)
     (λ a b c d t x some-text f e h. bytes-join (three a b c d) x (three-bytes a b c d f) h)
 

@@ -56,7 +56,9 @@ full-no a b c d h = by-case (full a b c d) refl
     by-case : (t : Bool) → full a b c d ≡ t → t ≡ false
     by-case true e =
         let k = known-all a b c d e in
-        let l : bitOr (bitOr (bitOr (value a) (value b)) (value c)) (value d) < 64 = or-small (value a) (value b) (value c) (value d) (k .0) (k .1) (k .2) (k .3) in
+        let l : bitOr (bitOr (bitOr (value a) (value b)) (value c)) (value d) < 64 =
+        or-small (value a) (value b) (value c) (value d) (k .0) (k .1) (k .2) (k .3)
+        in
         absurd (omega arith)
     by-case false e = refl
 

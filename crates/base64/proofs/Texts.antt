@@ -42,7 +42,9 @@ head-length : (x : List ℕ) (g : ℕ) → 3 * g ≤ length x → length (headTe
 head-length x g h = encode-length (take (3 * g) x) ∙ rw length-take (omega arith)
 
 -- a turn of the loop over groups
-pub encode-next : (x d b e : List ℕ) (g : ℕ) → 3 * g + 3 ≤ length x → 4 * g + 4 ≤ length d → b ≡ pasted d 0 (headText x g) → e ≡ pasted b (4 * g) (textOfThree x (3 * g)) → e ≡ pasted d 0 (headText x (g + 1))
+pub encode-next : (x d b e : List ℕ) (g : ℕ) → 3 * g + 3 ≤ length x → 4 * g + 4 ≤ length d → b ≡ pasted d 0 (headText x g)
+    → e ≡ pasted b (4 * g) (textOfThree x (3 * g))
+    → e ≡ pasted d 0 (headText x (g + 1))
 encode-next x d b e g hx hd eb ee =
     rw (encode-step x g hx)
     (ee
@@ -55,9 +57,14 @@ encodes-whole x d e g h p =
     record { count = rw (encode-length x) (omega arith); text = p ∙ ap (λ (l : List ℕ). pasted d 0 (encode l)) (take-all (3 * g) x (omega arith)) }
 
 -- bytes in whole groups, and one or two more
-encodes-end : (x y d b e : List ℕ) (g : ℕ) → 3 * g < length x → length x < 3 * g + 3 → 4 * g + 4 ≤ length d → drop (3 * g) x ≡ y → b ≡ pasted d 0 (headText x g) → e ≡ pasted b (4 * g) (encode y) → Encodes x d (4 * g + 4) e
+encodes-end : (x y d b e : List ℕ) (g : ℕ) → 3 * g < length x → length x < 3 * g + 3 → 4 * g + 4 ≤ length d → drop (3 * g) x ≡ y
+    → b ≡ pasted d 0 (headText x g)
+    → e ≡ pasted b (4 * g) (encode y)
+    → Encodes x d (4 * g + 4) e
 encodes-end x y d b e g low high room ey eb ee =
-    let whole : encode x ≡ headText x g ++ encode y = rw (take-append-drop (3 * g) x, ey) at (encode-join g (take (3 * g) x) (drop (3 * g) x) (rw length-take (omega arith))) in
+    let whole : encode x ≡ headText x g ++ encode y =
+    rw (take-append-drop (3 * g) x, ey) at (encode-join g (take (3 * g) x) (drop (3 * g) x) (rw length-take (omega arith)))
+    in
     record {
       count = rw (encode-length x) (omega arith);
       text =
@@ -68,7 +75,9 @@ encodes-end x y d b e g low high room ey eb ee =
     }
 
 -- bytes in whole groups, and one more
-pub encodes-one : (x d b e : List ℕ) (g : ℕ) → length x ≡ 3 * g + 1 → 4 * g + 4 ≤ length d → b ≡ pasted d 0 (headText x g) → e ≡ pasted b (4 * g) (encode (getD x (3 * g) 0 ∷ [])) → Encodes x d (4 * g + 4) e
+pub encodes-one : (x d b e : List ℕ) (g : ℕ) → length x ≡ 3 * g + 1 → 4 * g + 4 ≤ length d → b ≡ pasted d 0 (headText x g)
+    → e ≡ pasted b (4 * g) (encode (getD x (3 * g) 0 ∷ []))
+    → Encodes x d (4 * g + 4) e
 encodes-one x d b e g h room eb ee =
     encodes-end x (getD x (3 * g) 0 ∷ []) d b e g (omega arith) (omega arith) room
     (drop-cons x (3 * g) 0 (omega arith) ∙ ap (λ (l : List ℕ). getD x (3 * g) 0 ∷ l) (drop-of-length-le x {i = suc (3 * g)} (omega arith)))
@@ -76,7 +85,9 @@ encodes-one x d b e g h room eb ee =
     ee
 
 -- bytes in whole groups, and two more
-pub encodes-two : (x d b e : List ℕ) (g : ℕ) → length x ≡ 3 * g + 2 → 4 * g + 4 ≤ length d → b ≡ pasted d 0 (headText x g) → e ≡ pasted b (4 * g) (encode (getD x (3 * g) 0 ∷ getD x (3 * g + 1) 0 ∷ [])) → Encodes x d (4 * g + 4) e
+pub encodes-two : (x d b e : List ℕ) (g : ℕ) → length x ≡ 3 * g + 2 → 4 * g + 4 ≤ length d → b ≡ pasted d 0 (headText x g)
+    → e ≡ pasted b (4 * g) (encode (getD x (3 * g) 0 ∷ getD x (3 * g + 1) 0 ∷ []))
+    → Encodes x d (4 * g + 4) e
 encodes-two x d b e g h room eb ee =
     encodes-end x (getD x (3 * g) 0 ∷ getD x (3 * g + 1) 0 ∷ []) d b e g (omega arith) (omega arith) room
     (rw add-one

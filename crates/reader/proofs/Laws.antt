@@ -2,24 +2,25 @@
 -- Assumes nothing.
 use mathlib.Core.Path.{_≡_, refl, sym, ap, _∙_}
 use mathlib.Core.Bool.{Bool, true, false}
-use mathlib.Core.Option.{Option, none, some}
-use lib.Dec.{eqb}
+use mathlib.Core.Option.{none}
 use mathlib.Core.List.{List, _∷_, _++_}
 use Prim.Native.Nat.{ℕ, _+_, _-_, _≤_, _<_}
 use native.Mathlib.Omega.{arith}
+use lib.Dec.{eqb}
 use lib.ListN.{length, getD, take, drop, length-take, length-drop}
 use lib.Seq.{getD-drop, take-all, length-take-le}
 use borrow.Author.Tests.{le-leb, lt-leb, le-ltb, lt-ltb, eq-eqb, ne-eqb}
+use Rattle.laws.specs.Choice.{pick}
 use Rattle.laws.specs.Bytes.{pasted, ofBe16}
-use Rattle.laws.proofs.Choice.{pick-yes, pick-no, pick-same, both-yes, both-no, both-last-no}
+use Rattle.laws.proofs.Choice.{pick-yes, pick-no, both-yes, both-no, both-last-no}
 use Rattle.laws.proofs.Lists.{pasted-none, pasted-take}
 use Rattle.crc.specs.Crc.{crcOf}
-use Rattle.reader.specs.declared.Reader.the-variants.{Idle, Open}
-use Rattle.reader.specs.Reader.{more, body, keeping, dropping, possible, bodyOf, crcBytes, filled, waiting, completed, absorb, begin, resume, begun, resumed, framed, takeLine}
-use Rattle.reader.specs.declared.Reader.{Reader}
-use Rattle.frame.specs.Line.{longest, newline, initial, partial, marked, beginsWith, ended, textOf}
 use Rattle.base64.specs.Base64.{decode}
-use Rattle.laws.specs.Choice.{pick}
+use Rattle.frame.specs.Line.{longest, newline, initial, partial, marked, beginsWith, ended, textOf}
+use Rattle.reader.specs.declared.Reader.{Reader}
+use Rattle.reader.specs.declared.Reader.the-variants.{Idle, Open}
+use Rattle.reader.specs.Reader.{more, body, keeping, dropping, possible, bodyOf, crcBytes, filled, waiting, completed, absorb}
+use Rattle.reader.specs.Reader.{begin, resume, begun, resumed, framed, takeLine}
 
 -- the CRC bytes stand in x after the body
 pub crc-in-frame : (total come first : ℕ) (x : List ℕ) (i : ℕ) → come ≤ total - 2 → getD (crcBytes total come first x) i 0 ≡ getD x (total - 2 - come + i) 0
@@ -49,7 +50,8 @@ filled-none total come x p h =
     rw e (pasted-none p come)
 
 -- the body that a packet ends with stands in the buffer and in x
-pub due-both : (total come : ℕ) (x p : List ℕ) → come < total - 2 → total - 2 ≤ length p → total ≤ come + length x → take (total - 2) (filled total come x p) ≡ take come p ++ take (total - 2 - come) x
+pub due-both : (total come : ℕ) (x p : List ℕ) → come < total - 2 → total - 2 ≤ length p → total ≤ come + length x
+    → take (total - 2) (filled total come x p) ≡ take come p ++ take (total - 2 - come) x
 due-both total come x p h room all =
     let n : length (take (total - 2 - come) x) ≡ total - 2 - come = length-take-le (total - 2 - come) x (omega arith) in
     let e : come + length (take (total - 2 - come) x) ≡ total - 2 = omega arith in
@@ -58,11 +60,14 @@ due-both total come x p h room all =
     ∙ pasted-take p come (take (total - 2 - come) x) (omega arith)
 
 -- a packet whose CRC differs, and one whose CRC is right
-pub completed-wrong : (total come first : ℕ) (x p : List ℕ) → (ofBe16 (crcBytes total come first x) ≡ crcOf (take (total - 2) (filled total come x p)) → ⊥) → completed total come first x p ≡ dropping 9 p
+pub completed-wrong : (total come first : ℕ) (x p : List ℕ)
+    → (ofBe16 (crcBytes total come first x) ≡ crcOf (take (total - 2) (filled total come x p)) → ⊥)
+    → completed total come first x p ≡ dropping 9 p
 unfolding completed
 completed-wrong total come first x p h = simp (ne-eqb _ _ h, pick-no)
 
-pub completed-right : (total come first : ℕ) (x p : List ℕ) → ofBe16 (crcBytes total come first x) ≡ crcOf (take (total - 2) (filled total come x p)) → completed total come first x p ≡ record { says = body (total - 2); reader = Idle; buffer = filled total come x p }
+pub completed-right : (total come first : ℕ) (x p : List ℕ) → ofBe16 (crcBytes total come first x) ≡ crcOf (take (total - 2) (filled total come x p))
+    → completed total come first x p ≡ record { says = body (total - 2); reader = Idle; buffer = filled total come x p }
 unfolding completed
 completed-right total come first x p h = simp (eq-eqb _ _ h, pick-yes)
 
@@ -75,13 +80,15 @@ pub absorb-many : (total come first : ℕ) (x p : List ℕ) → total - 2 ≤ le
 unfolding absorb
 absorb-many total come first x p h k = simp (le-ltb _ _ h, pick-no, lt-ltb _ _ k, pick-yes)
 
-pub absorb-more : (total come first : ℕ) (x p : List ℕ) → total - 2 ≤ length p → come + length x < total → absorb total come first x p ≡ record { says = more; reader = waiting total come first x; buffer = filled total come x p }
+pub absorb-more : (total come first : ℕ) (x p : List ℕ) → total - 2 ≤ length p → come + length x < total
+    → absorb total come first x p ≡ record { says = more; reader = waiting total come first x; buffer = filled total come x p }
 unfolding absorb
 absorb-more total come first x p h k =
     let n : come + length x ≤ total = omega arith in
     simp (le-ltb _ _ h, le-ltb _ _ n, pick-no, lt-ltb _ _ k, pick-yes)
 
-pub absorb-last : (total come first : ℕ) (x p : List ℕ) → total - 2 ≤ length p → come + length x ≤ total → total ≤ come + length x → absorb total come first x p ≡ completed total come first x p
+pub absorb-last : (total come first : ℕ) (x p : List ℕ) → total - 2 ≤ length p → come + length x ≤ total → total ≤ come + length x
+    → absorb total come first x p ≡ completed total come first x p
 unfolding absorb
 absorb-last total come first x p h k l = simp (le-ltb _ _ h, le-ltb _ _ k, le-ltb _ _ l, pick-no)
 
@@ -137,15 +144,6 @@ pub framed-bad : (initial : Bool) (r : Reader) (p : List ℕ) → framed initial
 unfolding begun resumed
 framed-bad true r p = refl
 framed-bad false r p = refl
-
--- an initial frame, and a partial one
-pub framed-initial : (r : Reader) (raw p : List ℕ) → framed true r (some raw) p ≡ begin raw p
-unfolding begun
-framed-initial r raw p = refl
-
-pub framed-partial : (r : Reader) (raw p : List ℕ) → framed false r (some raw) p ≡ resume r raw p
-unfolding resumed
-framed-partial r raw p = refl
 
 -- a line's marker, by its two bytes
 pub marked-both : (a b : ℕ) (line : List ℕ) → getD line 0 0 ≡ a → eqb (getD line 1 0) b ≡ marked a b line

@@ -61,8 +61,11 @@ cut-next s k h l =
     let long = count-later (length s) k h l in
     let start : startOf (length s) k ≡ rawMost * k = omega (arith, start-is (length s) k) in
     let left = length-drop (rawMost * k - 2) s in
-    let n : stopOf (length s) k - rawMost * k ≡ min rawMost (length (drop (rawMost * k - 2) s)) = omega (arith, stop-next (length s) k l, start-is (length s) (suc k)) in
-    piece-later s k h ∙ rw (start, n, drop-append-le (rawMost * k - 2) s (be16 (crcOf s)) (omega arith), cut-short rawMost (drop (rawMost * k - 2) s) (be16 (crcOf s)))
+    let n : stopOf (length s) k - rawMost * k ≡ min rawMost (length (drop (rawMost * k - 2) s)) =
+    omega (arith, stop-next (length s) k l, start-is (length s) (suc k))
+    in
+    piece-later s k h ∙ rw
+    (start, n, drop-append-le (rawMost * k - 2) s (be16 (crcOf s)) (omega arith), cut-short rawMost (drop (rawMost * k - 2) s) (be16 (crcOf s)))
 
 -- the last frame of several carries the bytes left, and the CRC
 cut-last : (s : List ℕ) (k : ℕ) → 0 < k → k + 1 ≡ frameCount (length s) → pieceOf s k ≡ drop (rawMost * k - 2) s ++ be16 (crcOf s)

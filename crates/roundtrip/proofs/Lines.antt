@@ -51,7 +51,15 @@ unfolding takeLine
 passes a b r raw p l =
     let size = line-length a b raw in
     let text = encode-length raw in
-    rw (le-ltb longest (length (frame (a ∷ b ∷ []) raw)) (omega arith), pick-no, le-ltb (length (frame (a ∷ b ∷ []) raw)) 3 (omega arith), pick-no, line-ended, pick-no, line-text)
+    rw (
+      le-ltb longest (length (frame (a ∷ b ∷ []) raw)) (omega arith),
+      pick-no,
+      le-ltb (length (frame (a ∷ b ∷ []) raw)) 3 (omega arith),
+      pick-no,
+      line-ended,
+      pick-no,
+      line-text,
+    )
 
 -- an initial frame begins a packet
 pub initial-taken : (r : Reader) (raw p : List ℕ) → Bytes raw → 0 < length raw → length raw ≤ rawMost

@@ -145,7 +145,8 @@ module _ (s q : List ℕ) (bytes : Bytes s) (low : 8 ≤ length s) (high : lengt
       (ap (saying more) (run m (suc k) (opened s (suc k)) (omega arith) (λ h. refl)))
 
   -- the answers to all frames, with no noise
-  run-all : (r : Reader) → feed (frames s) r q ≡ record { says = replicate (frameCount (length s) - 1) more ++ (body (length s) ∷ []); reader = Idle; buffer = pasted q 0 s }
+  run-all : (r : Reader)
+      → feed (frames s) r q ≡ record { says = replicate (frameCount (length s) - 1) more ++ (body (length s) ∷ []); reader = Idle; buffer = pasted q 0 s }
   unfolding frames
   run-all r =
       let e : suc (frameCount (length s) - 1) ≡ frameCount (length s) = omega (arith, count-some (length s)) in

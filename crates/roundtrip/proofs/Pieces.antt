@@ -33,7 +33,8 @@ piece-first s =
     (take-past (be16 (length s + 2)) (afterTotal s) (stopOf (length s) 0) (piece-size (length s) 0 (count-some (length s)) .2))
 
 -- a later frame's raw bytes: the part from its start to its end
-pub piece-later : (s : List ℕ) (k : ℕ) → 0 < k → pieceOf s k ≡ take (stopOf (length s) k - startOf (length s) k) (drop (startOf (length s) k - 2) (afterTotal s))
+pub piece-later : (s : List ℕ) (k : ℕ) → 0 < k
+    → pieceOf s k ≡ take (stopOf (length s) k - startOf (length s) k) (drop (startOf (length s) k - 2) (afterTotal s))
 unfolding pieceOf rawOf be16
 piece-later s k h = rw (drop-past (be16 (length s + 2)) (afterTotal s) (startOf (length s) k) (start-later (length s) k h))
 

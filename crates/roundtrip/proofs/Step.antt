@@ -29,7 +29,15 @@ crc-bytes total u x h l = elim (decLe (length u) (total - 2)) [
   | no g ↦
       let e : length u + 1 ≡ total = omega arith in
       let f : total - 2 < length u = omega arith in
-      rw (lt-leb (length u) (total - 2) f, pick-no, eq-eqb (length u + 1) total e, pick-yes, drop-append-le (total - 2) u x (omega arith), drop-cons u (total - 2) 0 f, drop-of-length-le u {i = suc (total - 2)} (omega arith))
+      rw (
+        lt-leb (length u) (total - 2) f,
+        pick-no,
+        eq-eqb (length u + 1) total e,
+        pick-yes,
+        drop-append-le (total - 2) u x (omega arith),
+        drop-cons u (total - 2) 0 f,
+        drop-of-length-le u {i = suc (total - 2)} (omega arith),
+      )
 ]
 
 -- the buffer with this frame's bytes in holds u and x joined

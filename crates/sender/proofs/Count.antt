@@ -46,7 +46,7 @@ pub count-several : (b : ℕ) → severalFrom ≤ b → 1 < frameCount b
 count-several b l = by-count (λ (n : ℕ). 1 < n) b (λ h. omega arith) (λ h l. omega arith) (λ h. omega arith)
 
 -- a frame that another follows: the body has what would fit it beside total and CRC, besides a full frame for each before, or more
-pub count-next : (b k : ℕ) → k + 1 < frameCount b → rawMost * k + (rawMost - 4) ≤ b
+count-next : (b k : ℕ) → k + 1 < frameCount b → rawMost * k + (rawMost - 4) ≤ b
 count-next b k = by-count (λ (n : ℕ). k + 1 < n → rawMost * k + (rawMost - 4) ≤ b) b (λ h e. omega arith) (λ h l e. omega arith) (λ h e. omega arith)
 
 -- a frame that another follows, and that is not the first: the body has more than that

@@ -74,7 +74,8 @@ cut-inner s t from to h k =
     ∙ sym (append-nil (take (to - from) (drop from s)))
 
 -- after total, frame k's raw bytes are its run of the body and, in the last frame, the CRC
-pub piece-rest : (s : List ℕ) (k : ℕ) → take (stopOf (length s) k - 2 - fromOf (length s) k) (drop (fromOf (length s) k) (s ++ be16 (crcOf s))) ≡ middleOf s k ++ tailOf s k
+piece-rest : (s : List ℕ) (k : ℕ)
+    → take (stopOf (length s) k - 2 - fromOf (length s) k) (drop (fromOf (length s) k) (s ++ be16 (crcOf s))) ≡ middleOf s k ++ tailOf s k
 unfolding startOf middleOf
 piece-rest s k =
     elim (ℕ-discrete (k + 1) (frameCount (length s))) [
@@ -111,7 +112,8 @@ first-sizes b t =
     let size : stopOf b 0 - 0 - length (be16 (b + 2)) ≡ stopOf b 0 - 2 - fromOf b 0 = rw (be16-length (b + 2)) (omega arith) in
     ap₂ (λ (n m : ℕ). take n (drop m t)) size (sym begins)
 
-later-sizes : (b k : ℕ) (t : List ℕ) → (k ≡ 0 → ⊥) → take (stopOf b k - startOf b k) (drop (startOf b k) (be16 (b + 2) ++ t)) ≡ take (stopOf b k - 2 - fromOf b k) (drop (fromOf b k) t)
+later-sizes : (b k : ℕ) (t : List ℕ) → (k ≡ 0 → ⊥)
+    → take (stopOf b k - startOf b k) (drop (startOf b k) (be16 (b + 2) ++ t)) ≡ take (stopOf b k - 2 - fromOf b k) (drop (fromOf b k) t)
 unfolding startOf
 later-sizes b k t h =
     let low : 2 ≤ startOf b k = omega arith in
@@ -120,7 +122,7 @@ later-sizes b k t h =
     (drop-past (be16 (b + 2)) t (startOf b k) (rw (be16-length (b + 2)) low) ∙ ap (λ (n : ℕ). drop (startOf b k - n) t) (be16-length (b + 2)))
 
 -- a frame's raw bytes in three parts
-pub piece-parts : (s : List ℕ) (k : ℕ) → pieceOf s k ≡ headOf (length s) k ++ (middleOf s k ++ tailOf s k)
+piece-parts : (s : List ℕ) (k : ℕ) → pieceOf s k ≡ headOf (length s) k ++ (middleOf s k ++ tailOf s k)
 unfolding pieceOf rawOf
 piece-parts s zero =
     let b = length s in
@@ -175,7 +177,7 @@ marker-first k h = simp (eq-eqb _ _ h, pick-yes)
 pub marker-later : (k : ℕ) → (k ≡ 0 → ⊥) → markerOf k ≡ partial
 marker-later k h = simp (ne-eqb _ _ h, pick-no)
 
-pub marker-length : (k : ℕ) → length (markerOf k) ≡ 2
+marker-length : (k : ℕ) → length (markerOf k) ≡ 2
 marker-length k = pick-case (λ (m : List ℕ). length m ≡ 2) (eqb k 0) initial partial (λ e. refl) (λ e. refl)
 
 -- marker, text and 0A one after the other are the frame's line
@@ -204,7 +206,8 @@ pub text-room : (raw : List ℕ) → length raw ≤ rawMost → length (encode r
 text-room raw h = omega (arith, encode-length raw)
 
 -- the sender's refusals, and a frame that it sends
-pub send-unsendable : (s : List ℕ) (k : ℕ) (out : List ℕ) → sendable (length s) (length out) ≡ false → sendFrame s k out ≡ record { says = refused 12; buffer = out }
+pub send-unsendable : (s : List ℕ) (k : ℕ) (out : List ℕ) → sendable (length s) (length out) ≡ false
+    → sendFrame s k out ≡ record { says = refused 12; buffer = out }
 unfolding sendFrame
 send-unsendable s k out h = simp (h, pick-yes)
 
@@ -224,7 +227,8 @@ pub sendable-is : (b room : ℕ) → longest ≤ room → 8 ≤ b → b ≤ 6553
 unfolding sendable
 sendable-is b room h k l = simp (le-leb _ _ h, le-leb _ _ k, le-leb _ _ l, both-yes)
 
-pub send-beyond : (s : List ℕ) (k : ℕ) (out : List ℕ) → sendable (length s) (length out) ≡ true → frameCount (length s) ≤ k → sendFrame s k out ≡ record { says = refused 13; buffer = out }
+pub send-beyond : (s : List ℕ) (k : ℕ) (out : List ℕ) → sendable (length s) (length out) ≡ true → frameCount (length s) ≤ k
+    → sendFrame s k out ≡ record { says = refused 13; buffer = out }
 unfolding sendFrame
 send-beyond s k out h l = simp (h, pick-no, le-ltb _ _ l, pick-yes)
 

@@ -87,7 +87,8 @@ fn put_head(b: usize, k: usize, raw: &mut [u8]) -> usize
 
 // Frame k's run of the body goes to the raw bytes from place at on; gives the place after it.
 fn put_middle(body: &[u8], k: usize, count: usize, raw: &mut [u8], at: usize) -> usize
-    requires { ⌜ (length (now body) ≤ 65533) × (k < 705) × (count ≡ frameCount (length (now body))) × (at + length (middleOf (now body) k) ≤ length (now raw)) ⌝ }
+    requires { ⌜ (length (now body) ≤ 65533) × (k < 705) × (count ≡ frameCount (length (now body)))
+        × (at + length (middleOf (now body) k) ≤ length (now raw)) ⌝ }
     ensures { λ r. ⌜ (r ≡ at + length (middleOf (now (body .entry)) k)) × (now (raw .exit) ≡ pasted (now (raw .entry)) at (middleOf (now (body .entry)) k)) ⌝ }
 {
     let b = body.len();
@@ -112,8 +113,10 @@ fn put_tail(body: &[u8], k: usize, count: usize, raw: &mut [u8], at: usize) -> u
 
 // Frame k's raw bytes go to the start of raw; gives how many there are.
 fn put_piece(body: &[u8], k: usize, count: usize, raw: &mut [u8]) -> usize
-    requires { ⌜ (8 ≤ length (now body)) × (length (now body) ≤ 65533) × (count ≡ frameCount (length (now body))) × (k < count) × (count ≤ 705) × (length (now raw) ≡ rawMost) ⌝ }
-    ensures { λ r. ⌜ (r ≡ length (pieceOf (now (body .entry)) k)) × (now (raw .exit) ≡ pasted (now (raw .entry)) 0 (pieceOf (now (body .entry)) k)) × (r ≤ rawMost) ⌝ }
+    requires { ⌜ (8 ≤ length (now body)) × (length (now body) ≤ 65533) × (count ≡ frameCount (length (now body)))
+        × (k < count) × (count ≤ 705) × (length (now raw) ≡ rawMost) ⌝ }
+    ensures { λ r. ⌜ (r ≡ length (pieceOf (now (body .entry)) k)) × (now (raw .exit) ≡ pasted (now (raw .entry)) 0 (pieceOf (now (body .entry)) k))
+        × (r ≤ rawMost) ⌝ }
 {
     let at = put_head(body.len(), k, raw);
     let after = put_middle(body, k, count, raw, at);
@@ -135,7 +138,8 @@ fn put_marker(k: usize, out: &mut [u8])
 // The text of some raw bytes goes to out from its third byte on; gives how many characters it has.
 fn put_text(raw: &[u8], out: &mut [u8]) -> usize
     requires { ⌜ (length (now raw) ≤ rawMost) × (longest ≤ length (now out)) ⌝ }
-    ensures { λ r. ⌜ (r ≡ length (encode (now (raw .entry)))) × (now (out .exit) ≡ pasted (now (out .entry)) 2 (encode (now (raw .entry)))) × (r ≤ longestText) ⌝ }
+    ensures { λ r. ⌜ (r ≡ length (encode (now (raw .entry)))) × (now (out .exit) ≡ pasted (now (out .entry)) 2 (encode (now (raw .entry))))
+        × (r ≤ longestText) ⌝ }
 {
     base64::encode(raw, &mut out[2..])
 }
@@ -143,7 +147,8 @@ fn put_text(raw: &[u8], out: &mut [u8]) -> usize
 // Frame k's line with these raw bytes goes to the start of out; gives its length.
 fn put_line(k: usize, raw: &[u8], out: &mut [u8]) -> usize
     requires { ⌜ (length (now raw) ≤ rawMost) × (longest ≤ length (now out)) ⌝ }
-    ensures { λ r. ⌜ (r ≡ length (frame (markerOf k) (now (raw .entry)))) × (now (out .exit) ≡ pasted (now (out .entry)) 0 (frame (markerOf k) (now (raw .entry)))) ⌝ }
+    ensures { λ r. ⌜ (r ≡ length (frame (markerOf k) (now (raw .entry))))
+        × (now (out .exit) ≡ pasted (now (out .entry)) 0 (frame (markerOf k) (now (raw .entry)))) ⌝ }
 {
     put_marker(k, out);
     let n = put_text(raw, out);
@@ -154,7 +159,8 @@ fn put_line(k: usize, raw: &[u8], out: &mut [u8]) -> usize
 
 // The line of frame k of a body that takes `count` frames goes to the start of out; gives its length.
 fn write_frame(body: &[u8], k: usize, count: usize, out: &mut [u8]) -> usize
-    requires { ⌜ (8 ≤ length (now body)) × (length (now body) ≤ 65533) × (count ≡ frameCount (length (now body))) × (k < count) × (count ≤ 705) × (longest ≤ length (now out)) ⌝ }
+    requires { ⌜ (8 ≤ length (now body)) × (length (now body) ≤ 65533) × (count ≡ frameCount (length (now body)))
+        × (k < count) × (count ≤ 705) × (longest ≤ length (now out)) ⌝ }
     ensures { λ r. ⌜ (r ≡ length (frameOf (now (body .entry)) k)) × (now (out .exit) ≡ pasted (now (out .entry)) 0 (frameOf (now (body .entry)) k)) ⌝ }
 {
     let mut raw = [0u8; frame::RAW_MOST];

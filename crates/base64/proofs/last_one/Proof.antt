@@ -70,7 +70,8 @@ returns-4 c =
     let l1 = c .before .before .before .before .before .look in
     let l2 = c .before .before .look2 in
     last-good _ ((l1 .result * 4 + l2 .result / 16) ∷ []) (a .out .now) (a .o) _
-    (one-good _ _ _ _ (l1 .result) (l2 .result) (given .1 .1 .1 .0) (given .1 .1 .1 .1) (l1 .ensures) (l2 .ensures) (c .before .before .before .before .if1 .left) (c .before .if2 .left) (c .if3 .left))
+    (one-good _ _ _ _ (l1 .result) (l2 .result) (given .1 .1 .1 .0) (given .1 .1 .1 .1) (l1 .ensures) (l2 .ensures)
+    (c .before .before .before .before .if1 .left) (c .before .if2 .left) (c .if3 .left))
     (set-pasted (a .out .now) (a .o) (l1 .result * 4 + l2 .result / 16) (omega arith))
 
 pub last-one-spec : {M : Type 1} → statement M

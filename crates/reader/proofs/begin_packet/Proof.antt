@@ -34,7 +34,9 @@ add-total c = search needs
 
 returns-2 : tie.Need-returns-2
 unfolding ofBe16
-returns-2 c = record { bounded = tt; leads = λ p. sym (begin-small (c .before .before .before .before .before .before .before .args .raw .now) p (omega arith) (omega arith)) }
+returns-2 c =
+    record
+    { bounded = tt; leads = λ p. sym (begin-small (c .before .before .before .before .before .before .before .args .raw .now) p (omega arith) (omega arith)) }
 
 returns-3 : tie.Need-returns-3
 unfolding ofBe16

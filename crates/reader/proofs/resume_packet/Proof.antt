@@ -19,19 +19,28 @@ returns-2 : tie.Need-returns-2
 returns-2 c =
     let g = c .before .before .reader .given in
     let no-packet = possible-small (g .0 .0) (g .0 .1 .0) (omega arith) in
-    λ raw. record { bounded = tt; leads = resume-impossible (c .before .before .before .before .args .reader) (g .0 .0) (g .0 .1 .0) (g .0 .1 .1 .0) (g .1) no-packet raw }
+    λ raw. record
+    { bounded = tt; leads = resume-impossible (c .before .before .before .before .args .reader) (g .0 .0) (g .0 .1 .0) (g .0 .1 .1 .0) (g .1) no-packet raw }
 
 returns-3 : tie.Need-returns-3
 returns-3 c =
     let g = c .before .before .before .reader .given in
     let no-packet = possible-large (g .0 .0) (g .0 .1 .0) (omega arith) in
-    λ raw. record { bounded = tt; leads = resume-impossible (c .before .before .before .before .before .args .reader) (g .0 .0) (g .0 .1 .0) (g .0 .1 .1 .0) (g .1) no-packet raw }
+    λ raw. record {
+      bounded = tt;
+      leads = resume-impossible (c .before .before .before .before .before .args .reader) (g .0 .0) (g .0 .1 .0)
+          (g .0 .1 .1 .0) (g .1) no-packet raw;
+    }
 
 returns-4 : tie.Need-returns-4
 returns-4 c =
     let g = c .before .before .before .before .reader .given in
     let no-packet = possible-past (g .0 .0) (g .0 .1 .0) (omega arith) in
-    λ raw. record { bounded = tt; leads = resume-impossible (c .before .before .before .before .before .before .args .reader) (g .0 .0) (g .0 .1 .0) (g .0 .1 .1 .0) (g .1) no-packet raw }
+    λ raw. record {
+      bounded = tt;
+      leads = resume-impossible (c .before .before .before .before .before .before .args .reader) (g .0 .0) (g .0 .1 .0)
+          (g .0 .1 .1 .0) (g .1) no-packet raw;
+    }
 
 returns-5 : tie.Need-returns-5
 returns-5 c =

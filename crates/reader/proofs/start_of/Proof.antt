@@ -1,6 +1,5 @@
 -- `reader::start_of` meets its contract: an initial frame begins a packet, a partial one goes on with it.
 -- Assumes nothing.
-use mathlib.Core.Path.{sym}
 use Rattle.reader.specs.Reader.{begun, resumed}
 use borrow.Author.Needs.{needs}
 use Rattle.reader.proofs.start_of.Statement.{statement}

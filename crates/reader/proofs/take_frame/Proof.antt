@@ -36,17 +36,21 @@ returns c =
 
 -- the text of this line decodes to what stands at the start of the raw bytes, three at most for each four characters
 good : (c : tie.After-known-told)
-    → (decode (textOf (c .before .before .before .before .before .before .before .before .args .line .now)) ≡ some (take (c .before .n .given .0 .0) (c .before .before .before .before .decode-text .last .1 .0)))
+    → (decode (textOf (c .before .before .before .before .before .before .before .before .args .line .now)) ≡ some
+    (take (c .before .n .given .0 .0) (c .before .before .before .before .decode-text .last .1 .0)))
     × (c .before .n .given .0 .0 ≤ length (textOf (c .before .before .before .before .before .before .before .before .args .line .now)) / 4 * 3)
 good c =
     let d = c .before .before .before .before .decode-text in
-    decodes-good (textOf (c .before .before .before .before .before .before .before .before .args .line .now)) (replicate rawMost 0) (d .last .1 .0) (d .result) _ (d .ensures) (c .before .n .given .1)
+    decodes-good (textOf (c .before .before .before .before .before .before .before .before .args .line .now)) (replicate rawMost 0) (d .last .1 .0)
+    (d .result) _ (d .ensures) (c .before .n .given .1)
 
 array-share-prefix-raw : tie.Need-array-share-prefix-raw
 array-share-prefix-raw c = omega (arith, good c .1, text-size (c .before .before .before .before .before .before .before .before .args .line .now))
 
 slice-aggregate-take-raw : tie.Need-slice-aggregate-take-raw
-slice-aggregate-take-raw c = simp length-take (omega (arith, good (c .before) .1, text-size (c .before .before .before .before .before .before .before .before .before .args .line .now)))
+slice-aggregate-take-raw c =
+    simp length-take
+    (omega (arith, good (c .before) .1, text-size (c .before .before .before .before .before .before .before .before .before .args .line .now)))
 
 take-raw-requires : tie.Need-take-raw-requires
 take-raw-requires c κs = search needs

@@ -62,7 +62,8 @@ returns-5 c =
     (c .before .before .before .before .if4 .came)
     in
     c .before .before .take-frame .ensures
-    ∙ sym (line-framed (a .reader) (a .line .now) (a .p .now) (omega arith) (omega arith) (c .before .before .before .before .before .before .if3 .left) (first .result) (first .ensures) second)
+    ∙ sym (line-framed (a .reader) (a .line .now) (a .p .now) (omega arith) (omega arith)
+    (c .before .before .before .before .before .before .if3 .left) (first .result) (first .ensures) second)
 
 pub take-line-spec : {M : Type 1} → statement M
 take-line-spec =

@@ -21,7 +21,8 @@ same-length c = search needs
 returns : tie.Need-returns
 returns c =
     let a = c .before .before .before .before .before .before .before .args in
-    c .before .before .put .ensures ∙ ap (λ (l : List ℕ). pasted (a .out .now) 0 l) (sym (marker-first (a .k) (c .before .before .before .before .before .if1 .taken)))
+    c .before .before .put .ensures ∙ ap (λ (l : List ℕ). pasted (a .out .now) 0 l)
+    (sym (marker-first (a .k) (c .before .before .before .before .before .if1 .taken)))
 
 slice-aggregate-put-2 : tie.Need-slice-aggregate-put-2
 slice-aggregate-put-2 c = search needs
@@ -35,7 +36,8 @@ same-length-2 c = search needs
 returns-2 : tie.Need-returns-2
 returns-2 c =
     let a = c .before .before .before .before .before .before .before .args in
-    c .before .before .put2 .ensures ∙ ap (λ (l : List ℕ). pasted (a .out .now) 0 l) (sym (marker-later (a .k) (c .before .before .before .before .before .if1 .left)))
+    c .before .before .put2 .ensures ∙ ap (λ (l : List ℕ). pasted (a .out .now) 0 l)
+    (sym (marker-later (a .k) (c .before .before .before .before .before .if1 .left)))
 
 pub put-marker-spec : {M : Type 1} → statement M
 put-marker-spec =

@@ -40,7 +40,8 @@ returns c =
     let last = c .before .before .before .before .before .before .put-piece .last .1 .1 .1 .0 in
     let x = pieceOf (a .body .now) (a .k) in
     let e = c .before .before .before .before .before .before .put-piece .ensures in
-    let part : take n last ≡ x = ap (λ (l : List ℕ). take n l) (e .1 ∙ pasted-start (replicate rawMost 0) x) ∙ take-at x (drop (length x) (replicate rawMost 0)) n (sym (e .0)) in (
+    let part : take n last ≡ x = ap (λ (l : List ℕ). take n l) (e .1 ∙ pasted-start (replicate rawMost 0) x) ∙ take-at x
+    (drop (length x) (replicate rawMost 0)) n (sym (e .0)) in (
       c .before .before .put-line .ensures .0 ∙ ap (λ (l : List ℕ). length (frame (markerOf (a .k)) l)) part,
       c .before .before .put-line .ensures .1 ∙ ap (λ (l : List ℕ). pasted (a .out .now) 0 (frame (markerOf (a .k)) l)) part,
     )
