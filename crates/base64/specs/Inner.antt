@@ -60,12 +60,14 @@ pub record Last (x : Option (List ℕ)) (d : List ℕ) (o r : ℕ) (e : List ℕ
 abbrev pub headText : List ℕ → ℕ → List ℕ
 headText x n = encode (take (3 * n) x)
 
--- the text of the three bytes from i on, of a last byte, and of the last two
+-- the text of the three bytes from i on
 abbrev pub textOfThree : List ℕ → ℕ → List ℕ
 textOfThree x i = encode (getD x i 0 ∷ getD x (i + 1) 0 ∷ getD x (i + 2) 0 ∷ [])
 
+-- the text of a last byte
 abbrev pub textOfOne : ℕ → List ℕ
 textOfOne a = encode (a ∷ [])
 
+-- the text of the last two bytes
 abbrev pub textOfTwo : ℕ → ℕ → List ℕ
 textOfTwo a b = encode (a ∷ b ∷ [])

@@ -16,14 +16,15 @@ longest = 127
 abbrev pub newline : ℕ
 newline = 0x0A
 
--- the two markers
+-- the marker of a packet's first frame: "06 09 (initial)"
 abbrev pub initial : List ℕ
 initial = 0x06 ∷ 0x09 ∷ []
 
+-- the marker of its later frames: "04 14 (partial)"
 abbrev pub partial : List ℕ
 partial = 0x04 ∷ 0x14 ∷ []
 
--- the longest text: a line less its marker and its end
+-- the longest text, a line less its marker and its end: "text of 0 to 124 characters"
 abbrev pub longestText : ℕ
 longestText = longest - 3
 
@@ -31,7 +32,7 @@ longestText = longest - 3
 abbrev pub rawMost : ℕ
 rawMost = longestText / 4 * 3
 
--- the frame that carries some raw bytes
+-- the frame that carries some raw bytes: marker, text and 0A
 unfoldable pub frame : List ℕ → List ℕ → List ℕ
 frame marker raw = marker ++ (encode raw ++ (newline ∷ []))
 

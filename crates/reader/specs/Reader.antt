@@ -61,7 +61,8 @@ bodyOf total come x = take (total - 2 - come) x
 unfoldable pub crcBytes : ℕ → ℕ → ℕ → List ℕ → List ℕ
 crcBytes total come first x = pick (leb come (total - 2)) (drop (total - 2 - come) x) (first ∷ x)
 
--- the packet buffer with this frame's bytes in
+-- the packet buffer with this frame's bytes in: "Body bytes go to the lent packet buffer in order, its other bytes stay, and the CRC does
+-- not go there."
 unfoldable pub filled : ℕ → ℕ → List ℕ → List ℕ → List ℕ
 filled total come x p = pasted p come (bodyOf total come x)
 
@@ -76,7 +77,8 @@ completed total come first x p =
     (record { says = body (total - 2); reader = Idle; buffer = filled total come x p })
     (dropping 9 p)
 
--- body and CRC bytes x come on top of `come` others of a packet of this total: refusals 7 and 8, then more or complete
+-- body and CRC bytes x come on top of `come` others of a packet of this total: refusals 7 and 8; then "the packet is complete when as many
+-- bytes have come as total says; the answer is then the body length with the record idle, otherwise that more is wanted"
 unfoldable pub absorb : ℕ → ℕ → ℕ → List ℕ → List ℕ → Outcome
 absorb total come first x p =
     pick (ltb (length p) (total - 2)) (dropping 7 p)
@@ -85,14 +87,16 @@ absorb total come first x p =
     (record { says = more; reader = waiting total come first x; buffer = filled total come x p })
     (completed total come first x p)))
 
--- the raw bytes of an initial frame: "Total stands whole in the initial frame", and is 10 at least: refusal 6
+-- the raw bytes of an initial frame: "An initial frame drops an unfinished packet and starts anew."; "Total stands whole in the initial
+-- frame", and is 10 at least: refusal 6
 unfoldable pub begin : List ℕ → List ℕ → Outcome
 begin raw p =
     pick (ltb (length raw) 2) (dropping 6 p)
     (pick (ltb (ofBe16 raw) 10) (dropping 6 p)
     (absorb (ofBe16 raw) 0 0 (drop 2 raw) p))
 
--- the raw bytes of a partial frame: refusal 5 where no packet is open
+-- the raw bytes of a partial frame: refusal 5 where no packet is open, and "an open one outside these bounds is refused 5 for a partial
+-- frame"
 unfoldable pub resume : Reader → List ℕ → List ℕ → Outcome
 resume Idle raw p = keeping 5 Idle p
 resume (Open total come first) raw p =
@@ -114,7 +118,7 @@ abbrev pub framed : Bool → Reader → Option (List ℕ) → List ℕ → Outco
 framed true r text p = begun text p
 framed false r text p = resumed text r p
 
--- a line is taken: refusals 2 and 3, then by its marker
+-- "The reader takes one line at a time.": refusals 2 and 3, then by its marker
 unfoldable pub takeLine : Reader → List ℕ → List ℕ → Outcome
 takeLine r line p =
     pick (ltb longest (length line)) (keeping 2 r p)

@@ -22,8 +22,9 @@ use Rattle.roundtrip.specs.RoundTrip.{frames, RoundTrip}
 use Rattle.roundtrip.specs.Standing.{afterTotal, standing, holding, whole}
 use Rattle.reader.proofs.Lines.{without-noise}
 use Rattle.roundtrip.proofs.Step.{holding-none, holding-length, initial-step, partial-step, whole-more, whole-body}
+use Rattle.sender.proofs.Laws.{piece-length}
 use Rattle.sender.proofs.Count.{count-some, start-is, start-first, stop-next, stop-last}
-use Rattle.roundtrip.proofs.Pieces.{after-length, piece-first, piece-joined, piece-length, piece-bytes}
+use Rattle.roundtrip.proofs.Pieces.{after-length, piece-first, piece-joined, piece-some, piece-bytes}
 use Rattle.roundtrip.proofs.Lines.{initial-taken, partial-taken}
 
 -- all that our sender's frames draw is heard
@@ -72,9 +73,9 @@ module _ (s q : List ℕ) (bytes : Bytes s) (low : 8 ≤ length s) (high : lengt
   first-taken : (r : Reader) → takeLine r (frameOf s 0) q ≡ whole (length s + 2) (through s 0) q q
   unfolding frameOf
   first-taken r =
-      let size = piece-length s 0 (count-some (length s)) in
+      let least = count-some (length s) in
       rw pick-yes
-      (initial-taken r (pieceOf s 0) q (piece-bytes s 0 bytes) (size .0) (size .1)
+      (initial-taken r (pieceOf s 0) q (piece-bytes s 0 bytes) (piece-some s 0 least) (piece-length s 0 least)
       ∙ rw (piece-first s) (begins (length s + 2) (through s 0) q (omega arith) (omega arith)))
 
   -- a later frame is taken
@@ -83,9 +84,8 @@ module _ (s q : List ℕ) (bytes : Bytes s) (low : 8 ≤ length s) (high : lengt
       ≡ whole (length s + 2) (through s k) q (held s k q)
   unfolding frameOf
   later-taken k h l =
-      let size = piece-length s k l in
       rw (ne-eqb k 0 (λ e. omega arith), pick-no)
-      (partial-taken (opened s k) (pieceOf s k) (held s k q) (piece-bytes s k bytes) (size .0) (size .1)
+      (partial-taken (opened s k) (pieceOf s k) (held s k q) (piece-bytes s k bytes) (piece-some s k l) (piece-length s k l)
       ∙ partial-step (length s + 2) (before s k) (pieceOf s k) q (omega arith) (omega arith) (before-less k) (before-room k)
       ∙ rw (piece-joined s k h l))
 

@@ -1,7 +1,7 @@
 -- The raw bytes of each frame as parts of what follows total: frame 0 carries total and a first part, each later frame the next part.
 -- Assumes nothing.
 use mathlib.Core.Path.{_≡_, sym}
-use Prim.Native.Nat.{ℕ, _+_, _-_, _≤_, _<_}
+use Prim.Native.Nat.{ℕ, _+_, _-_, _<_}
 use native.Mathlib.Nat.{sub-zero}
 use native.Mathlib.Omega.{arith}
 use mathlib.Core.List.{List, _++_}
@@ -10,7 +10,6 @@ use lib.Seq.{take-add}
 use Rattle.laws.specs.Bytes.{Bytes, be16}
 use Rattle.laws.proofs.Lists.{take-past, drop-past, bytes-join, bytes-take, bytes-drop, be16-bytes}
 use Rattle.crc.specs.Crc.{crcOf}
-use Rattle.frame.specs.Line.{rawMost}
 use Rattle.sender.specs.Sender.{frameCount, rawOf, startOf, stopOf, pieceOf}
 use Rattle.roundtrip.specs.Standing.{afterTotal}
 use Rattle.sender.proofs.Count.{count-some, start-first, start-later, piece-size}
@@ -47,10 +46,10 @@ piece-joined s k h l =
     let e : startOf (length s) k - 2 + (stopOf (length s) k - startOf (length s) k) ≡ stopOf (length s) k - 2 = omega arith in
     rw (piece-later s k h, ← e) (sym (take-add (startOf (length s) k - 2) (stopOf (length s) k - startOf (length s) k) (afterTotal s)))
 
--- a frame carries a raw byte at least, and at most those of a full one
-pub piece-length : (s : List ℕ) (k : ℕ) → k < frameCount (length s) → (0 < length (pieceOf s k)) × (length (pieceOf s k) ≤ rawMost)
+-- a frame carries a raw byte at least
+pub piece-some : (s : List ℕ) (k : ℕ) → k < frameCount (length s) → 0 < length (pieceOf s k)
 unfolding pieceOf
-piece-length s k l =
+piece-some s k l =
     let size = piece-size (length s) k l in
     simp (length-take, length-drop, raw-length) (omega arith)
 

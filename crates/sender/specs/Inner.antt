@@ -14,10 +14,11 @@ use Rattle.sender.specs.Sender.{frameCount, startOf, stopOf}
 unfoldable pub headOf : ℕ → ℕ → List ℕ
 headOf b k = pick (eqb k 0) (be16 (b + 2)) []
 
--- where frame k's run of the body begins and ends
+-- where frame k's run of the body begins
 abbrev pub fromOf : ℕ → ℕ → ℕ
 fromOf b k = startOf b k - 2
 
+-- where it ends
 abbrev pub toOf : ℕ → ℕ → ℕ
 toOf b k = min (stopOf b k - 2) b
 

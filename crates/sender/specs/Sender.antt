@@ -33,7 +33,7 @@ twoFrames = 2 * bodyMost
 unfoldable pub frameCount : ℕ → ℕ
 frameCount b = pick (oneFrame b) 1 (pick (leb b twoFrames) 2 (2 + (b - twoFrames + (rawMost - 1)) / rawMost))
 
--- the raw bytes of a packet: total, body, CRC
+-- "The raw bytes of a packet are: total (2 bytes, big-endian, body length plus 2), body, CRC (2 bytes, big-endian)."
 unfoldable pub rawOf : List ℕ → List ℕ
 rawOf s = be16 (length s + 2) ++ (s ++ be16 (crcOf s))
 
@@ -94,7 +94,8 @@ outcome s out = record { says = told s; buffer = out }
 unfoldable pub sendable : ℕ → ℕ → Bool
 sendable b room = both (leb longest room) (both (leb 8 b) (leb b 65533))
 
--- frame number k of the body s goes to the start of the lent buffer: refusals 12 and 13, then the frame
+-- "The sender writes frame number k (from 0) of a body into a lent buffer of at least 127 bytes and gives its length and the frame count;
+-- bytes after the frame stay.": refusals 12 and 13, then the frame
 unfoldable pub sendFrame : List ℕ → ℕ → List ℕ → Outcome
 sendFrame s k out =
     pick (not (sendable (length s) (length out))) (record { says = refused 12; buffer = out })
