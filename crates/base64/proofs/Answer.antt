@@ -12,17 +12,17 @@ use Rattle.laws.proofs.Lists.{pasted-start}
 use Rattle.base64.specs.declared.Decoded.{Decoded}
 use Rattle.base64.specs.declared.Decoded.the-variants.{Bytes, Bad}
 use Rattle.base64.specs.Base64.{decode}
-use Rattle.base64.specs.Contract.{Decodes, lengthIn, stored}
+use Rattle.base64.specs.Contract.{Decodes, lengthIn}
 use Rattle.base64.proofs.Laws.{stored-good, decode-length}
 
 -- an answer that is bad is that of nothing
-pub bad-none : (o : Option (List ℕ)) → Bad ≡ lengthIn o → o ≡ none
+bad-none : (o : Option (List ℕ)) → Bad ≡ lengthIn o → o ≡ none
 unfolding lengthIn
 bad-none none e = refl
 bad-none (some x) e = let z : _≡_ {A = ℕ} 0 1 = cc in absurd (omega arith)
 
 -- an answer of n bytes is that of a list of n
-pub good-some : (o : Option (List ℕ)) (n : ℕ) → Bytes n ≡ lengthIn o → (x : List ℕ) × (o ≡ some x) × (n ≡ length x)
+good-some : (o : Option (List ℕ)) (n : ℕ) → Bytes n ≡ lengthIn o → (x : List ℕ) × (o ≡ some x) × (n ≡ length x)
 unfolding lengthIn
 good-some none n e = let z : _≡_ {A = ℕ} 0 1 = cc in absurd (omega arith)
 good-some (some x) n e = (x, refl, cc)

@@ -9,7 +9,7 @@ use mathlib.Core.List.{List, [], _∷_, _++_, append-nil}
 use mathlib.Core.Option.{Option, none, some}
 use lib.ListN.{length, length-append}
 use lib.Dec.{ltb, eqb, lit<}
-use borrow.Author.Tests.{ltb-true, eqb-true, eqb-false, lt-ltb, le-leb, lt-leb, eq-eqb, ne-eqb}
+use borrow.Author.Tests.{ltb-true, eqb-true, lt-ltb, le-leb, lt-leb, eq-eqb, ne-eqb}
 use Rattle.laws.specs.Choice.{pick, both}
 use Rattle.laws.specs.Bytes.{Bytes}
 use Rattle.laws.proofs.Choice.{pick-yes, pick-no, pick-case, pick-keep, both-yes, both-true}
@@ -31,45 +31,48 @@ one-of f (suc n) k e h =
     elim (decLt k n) [ yes l ↦ one-of f n k (w .1) l | no l ↦ (let same : k ≡ n = omega arith in rw same (w .0)) ]
 
 -- the character of a number stands for that number
-pub char-value : (v : ℕ) → v < 64 → value (char v) ≡ v
+char-value : (v : ℕ) → v < 64 → value (char v) ≡ v
 unfolding char value pick both every
 char-value v h = eqb-true (value (char v)) v (one-of (λ (v : ℕ). eqb (value (char v)) v) 64 v refl h)
 
 -- no number's character is the one that fills the last group
-pub char-other : (v : ℕ) → v < 64 → eqb (char v) pad ≡ false
+char-other : (v : ℕ) → v < 64 → eqb (char v) pad ≡ false
 unfolding char pick every both
-char-other v h = ne-eqb (char v) pad (λ e. absurd (false≢true (sym (eqb-true-false (char v) e) ∙ one-of (λ (v : ℕ). pick (eqb (char v) 61) false true) 64 v refl h)))
+char-other v h =
+    ne-eqb (char v) pad (λ e. absurd (false≢true (sym (eqb-true-false (char v) e) ∙ one-of (λ (v : ℕ). pick (eqb (char v) 61) false true) 64 v refl h)))
   where
     eqb-true-false : (c : ℕ) → c ≡ 61 → pick (eqb c 61) false true ≡ false
     eqb-true-false c e = rw (eq-eqb c 61 e) refl
-
--- the same as a statement
-pub char-not-pad : (v : ℕ) → v < 64 → char v ≡ pad → ⊥
-char-not-pad v h = eqb-false (char v) pad (char-other v h)
-
--- the filling character stands for no number
-pub value-pad : value pad ≡ 64
-unfolding value pick both
-value-pad = refl
 
 -- a number of 123 or more is the number of no character that stands for anything
 far : (c : ℕ) → 123 ≤ c → value c ≡ 64
 unfolding value
 far c h =
-    rw (le-leb 65 c (omega arith), lt-leb c 90 (omega arith), le-leb 97 c (omega arith), lt-leb c 122 (omega arith), le-leb 48 c (omega arith), lt-leb c 57 (omega arith), ne-eqb c 43 (λ e. omega arith), ne-eqb c 47 (λ e. omega arith))
+    rw (
+      le-leb 65 c (omega arith),
+      lt-leb c 90 (omega arith),
+      le-leb 97 c (omega arith),
+      lt-leb c 122 (omega arith),
+      le-leb 48 c (omega arith),
+      lt-leb c 57 (omega arith),
+      ne-eqb c 43 (λ e. omega arith),
+      ne-eqb c 47 (λ e. omega arith),
+    )
     (simp (both-yes, pick-no))
 
 -- the same for the characters below 123
 near : (c : ℕ) → c < 123 → value c < 64 → char (value c) ≡ c
 unfolding char value pick both every
-near c l h = eqb-true (char (value c)) c (chosen (ltb (value c) 64) (eqb (char (value c)) c) (lt-ltb (value c) 64 h) (one-of (λ (c : ℕ). pick (ltb (value c) 64) (eqb (char (value c)) c) true) 123 c refl l))
+near c l h =
+    eqb-true (char (value c)) c (chosen (ltb (value c) 64) (eqb (char (value c)) c) (lt-ltb (value c) 64 h)
+    (one-of (λ (c : ℕ). pick (ltb (value c) 64) (eqb (char (value c)) c) true) 123 c refl l))
   where
     chosen : (t u : Bool) → t ≡ true → pick t u true ≡ true → u ≡ true
     chosen true u e f = f
     chosen false u e f = absurd (false≢true e)
 
 -- a character that stands for a number is that number's character
-pub value-char : (c : ℕ) → value c < 64 → char (value c) ≡ c
+value-char : (c : ℕ) → value c < 64 → char (value c) ≡ c
 value-char c h =
     elim (decLt c 123) [
       | yes l ↦ near c l h
@@ -120,7 +123,8 @@ same-third : (b c : ℕ) → b < 256 → c < 256 → third (b % 16 * 4 + c / 64)
 same-third b c k l = omega arith
 
 -- three bytes come back from their four numbers
-bytes-same : (a b c : ℕ) → a < 256 → b < 256 → c < 256 → first (a / 4) (a % 4 * 16 + b / 16) ∷ second (a % 4 * 16 + b / 16) (b % 16 * 4 + c / 64) ∷ third (b % 16 * 4 + c / 64) (c % 64) ∷ [] ≡ a ∷ b ∷ c ∷ []
+bytes-same : (a b c : ℕ) → a < 256 → b < 256 → c < 256
+    → first (a / 4) (a % 4 * 16 + b / 16) ∷ second (a % 4 * 16 + b / 16) (b % 16 * 4 + c / 64) ∷ third (b % 16 * 4 + c / 64) (c % 64) ∷ [] ≡ a ∷ b ∷ c ∷ []
 bytes-same a b c ha hb hc = rw (same-first a b ha hb, same-second a b c ha hb hc, same-third b c hb hc) refl
 
 -- a text of a group and more is that group's bytes before the rest's
@@ -162,7 +166,13 @@ decode-encode (a ∷ b ∷ c ∷ d ∷ s) p h =
     let hb : b < 256 = p 1 in
     let hc : c < 256 = p 2 in
     decode-more (char (a / 4)) (char (a % 4 * 16 + b / 16)) (char (b % 16 * 4 + c / 64)) (char (c % 64)) (encode (d ∷ s)) (encode-some (d ∷ s) (omega arith))
-    ∙ rw (full-chars (a / 4) (a % 4 * 16 + b / 16) (b % 16 * 4 + c / 64) (c % 64) (omega arith) (omega arith) (omega arith) (omega arith), pick-yes, three-chars (a / 4) (a % 4 * 16 + b / 16) (b % 16 * 4 + c / 64) (c % 64) (omega arith) (omega arith) (omega arith) (omega arith), bytes-same a b c ha hb hc, decode-encode (d ∷ s) (λ (i : ℕ). p (suc (suc (suc i)))) (omega arith)) refl
+    ∙ rw (
+      full-chars (a / 4) (a % 4 * 16 + b / 16) (b % 16 * 4 + c / 64) (c % 64) (omega arith) (omega arith) (omega arith) (omega arith),
+      pick-yes,
+      three-chars (a / 4) (a % 4 * 16 + b / 16) (b % 16 * 4 + c / 64) (c % 64) (omega arith) (omega arith) (omega arith) (omega arith),
+      bytes-same a b c ha hb hc,
+      decode-encode (d ∷ s) (λ (i : ℕ). p (suc (suc (suc i)))) (omega arith),
+    ) refl
 
 -- bytes before others, when nothing is not well formed
 ahead-some : (x : List ℕ) (o : Option (List ℕ)) (y : List ℕ) → ahead x o ≡ some y → (s : List ℕ) × ((o ≡ some s) × (y ≡ x ++ s))
@@ -184,7 +194,7 @@ known-all a b c d e =
     (ltb-true (value a) 64 (w .0), ltb-true (value b) 64 (v .0), ltb-true (value c) 64 (u .0), ltb-true (value d) 64 (u .1))
 
 -- four numbers are those of their three bytes, so their characters come back
-pub encode-three : (a b c d : ℕ) (s : List ℕ) → full a b c d ≡ true → encode (three a b c d ++ s) ≡ a ∷ b ∷ c ∷ d ∷ encode s
+encode-three : (a b c d : ℕ) (s : List ℕ) → full a b c d ≡ true → encode (three a b c d ++ s) ≡ a ∷ b ∷ c ∷ d ∷ encode s
 unfolding three encode
 encode-three a b c d s e =
     let k = known-all a b c d e in
@@ -194,7 +204,8 @@ encode-three a b c d s e =
     let hd : value d < 64 = k .3 in
     same-four (value a) (value b) (value c) (value d) a b c d s ha hb hc hd (value-char a ha) (value-char b hb) (value-char c hc) (value-char d hd)
   where
-    same-four : (p q r s a b c d : ℕ) (l : List ℕ) → p < 64 → q < 64 → r < 64 → s < 64 → char p ≡ a → char q ≡ b → char r ≡ c → char s ≡ d → encode (first p q ∷ second q r ∷ third r s ∷ l) ≡ a ∷ b ∷ c ∷ d ∷ encode l
+    same-four : (p q r s a b c d : ℕ) (l : List ℕ) → p < 64 → q < 64 → r < 64 → s < 64 → char p ≡ a → char q ≡ b → char r ≡ c → char s ≡ d
+        → encode (first p q ∷ second q r ∷ third r s ∷ l) ≡ a ∷ b ∷ c ∷ d ∷ encode l
     same-four p q r s a b c d l hp hq hr hs ea eb ec ed =
         let fp : first p q / 4 ≡ p = omega arith in
         let fq : first p q % 4 * 16 + second q r / 16 ≡ q = omega arith in
@@ -212,7 +223,12 @@ module _ (P : ℕ → ℕ → ℕ → ℕ → List ℕ → Type 0) where
       rw same at (f (w .0))
 
   -- the principle, by the tests of a last group
-  pub final-elim : ((a b : ℕ) → value a < 64 → value b < 64 → value b % 16 ≡ 0 → P a b pad pad (first (value a) (value b) ∷ [])) → ((a b c : ℕ) → value a < 64 → value b < 64 → value c < 64 → value c % 4 ≡ 0 → P a b c pad (first (value a) (value b) ∷ second (value b) (value c) ∷ [])) → ((a b c d : ℕ) → full a b c d ≡ true → P a b c d (three a b c d)) → (a b c d : ℕ) (x : List ℕ) → final a b c d ≡ some x → P a b c d x
+  final-elim : ((a b : ℕ) → value a < 64 → value b < 64 → value b % 16 ≡ 0 → P a b pad pad (first (value a) (value b) ∷ []))
+      → ((a b c : ℕ) → value a < 64 → value b < 64 → value c < 64 → value c % 4 ≡ 0 → P a b c pad (first (value a) (value b) ∷ second (value b) (value c) ∷ []))
+      → ((a b c d : ℕ) → full a b c d ≡ true → P a b c d (three a b c d))
+      → (a b c d : ℕ) (x : List ℕ)
+      → final a b c d ≡ some x
+      → P a b c d x
   unfolding final
   final-elim one two all a b c d x =
       pick-case (λ (o : Option (List ℕ)). o ≡ some x → P a b c d x) (eqb d pad) _ _
@@ -227,7 +243,8 @@ module _ (P : ℕ → ℕ → ℕ → ℕ → List ℕ → Type 0) where
           let v = both-true (known b) (eqb (value b % 16) 0) (w .1) in
           one a b (ltb-true (value a) 64 (w .0)) (ltb-true (value b) 64 (v .0)) (eqb-true (value b % 16) 0 (v .1))
 
-      two-given : (a b c : ℕ) → both (known a) (both (known b) (both (known c) (eqb (value c % 4) 0))) ≡ true → P a b c pad (first (value a) (value b) ∷ second (value b) (value c) ∷ [])
+      two-given : (a b c : ℕ) → both (known a) (both (known b) (both (known c) (eqb (value c % 4) 0))) ≡ true
+          → P a b c pad (first (value a) (value b) ∷ second (value b) (value c) ∷ [])
       two-given a b c t =
           let w = both-true (known a) (both (known b) (both (known c) (eqb (value c % 4) 0))) t in
           let v = both-true (known b) (both (known c) (eqb (value c % 4) 0)) (w .1) in
@@ -245,7 +262,8 @@ encode-final = final-elim (λ (a b c d : ℕ) (x : List ℕ). encode x ≡ a ∷
         let eb : first (value a) (value b) % 4 * 16 ≡ value b = omega arith in
         rw (ea, eb, value-char a ha, value-char b hb) refl
 
-    two : (a b c : ℕ) → value a < 64 → value b < 64 → value c < 64 → value c % 4 ≡ 0 → encode (first (value a) (value b) ∷ second (value b) (value c) ∷ []) ≡ a ∷ b ∷ c ∷ pad ∷ []
+    two : (a b c : ℕ) → value a < 64 → value b < 64 → value c < 64 → value c % 4 ≡ 0
+        → encode (first (value a) (value b) ∷ second (value b) (value c) ∷ []) ≡ a ∷ b ∷ c ∷ pad ∷ []
     two a b c ha hb hc z =
         let ea : first (value a) (value b) / 4 ≡ value a = omega arith in
         let eb : first (value a) (value b) % 4 * 16 + second (value b) (value c) / 16 ≡ value b = omega arith in
@@ -256,9 +274,12 @@ encode-final = final-elim (λ (a b c d : ℕ) (x : List ℕ). encode x ≡ a ∷
     all a b c d e = rw append-nil at (encode-three a b c d [] e)
 
 -- what holds of the bytes of each last group, and of a full group's bytes before those of which it holds, holds of all that decodes
-module _ (P : List ℕ → List ℕ → Type 0) (last : (a b c d : ℕ) (x : List ℕ) → final a b c d ≡ some x → P (a ∷ b ∷ c ∷ d ∷ []) x) (more : (a b c d : ℕ) (t x : List ℕ) → 0 < length t → full a b c d ≡ true → decode t ≡ some x → P t x → P (a ∷ b ∷ c ∷ d ∷ t) (three a b c d ++ x)) where
+module _ (P : List ℕ → List ℕ → Type 0)
+    (last : (a b c d : ℕ) (x : List ℕ) → final a b c d ≡ some x → P (a ∷ b ∷ c ∷ d ∷ []) x)
+    (more : (a b c d : ℕ) (t x : List ℕ) → 0 < length t → full a b c d ≡ true → decode t ≡ some x → P t x
+    → P (a ∷ b ∷ c ∷ d ∷ t) (three a b c d ++ x)) where
   -- the principle, group by group
-  pub decode-elim : (t x : List ℕ) → decode t ≡ some x → P t x
+  decode-elim : (t x : List ℕ) → decode t ≡ some x → P t x
   unfolding decode
   decode-elim [] x e = absurd (none-some x e)
   decode-elim (a ∷ []) x e = absurd (none-some x e)
@@ -266,7 +287,9 @@ module _ (P : List ℕ → List ℕ → Type 0) (last : (a b c d : ℕ) (x : Lis
   decode-elim (a ∷ b ∷ c ∷ []) x e = absurd (none-some x e)
   decode-elim (a ∷ b ∷ c ∷ d ∷ []) x e = last a b c d x e
   decode-elim (a ∷ b ∷ c ∷ d ∷ f ∷ t) x e =
-      let w : (full a b c d ≡ true) × (ahead (three a b c d) (decode (f ∷ t)) ≡ some x) = pick-keep (full a b c d) (ahead (three a b c d) (decode (f ∷ t))) none (some x) (none-some x) e in
+      let w : (full a b c d ≡ true) × (ahead (three a b c d) (decode (f ∷ t)) ≡ some x) =
+      pick-keep (full a b c d) (ahead (three a b c d) (decode (f ∷ t))) none (some x) (none-some x) e
+      in
       let g : (s : List ℕ) × ((decode (f ∷ t) ≡ some s) × (x ≡ three a b c d ++ s)) = ahead-some (three a b c d) (decode (f ∷ t)) x (w .1) in
       let back : x ≡ three a b c d ++ g .0 = g .1 .1 in
       rw back (more a b c d (f ∷ t) (g .0) (omega arith) (w .0) (g .1 .0) (decode-elim (f ∷ t) (g .0) (g .1 .0)))
@@ -301,7 +324,8 @@ decode-bytes =
     decode-elim (λ (t x : List ℕ). Bytes x)
     (final-elim (λ (a b c d : ℕ) (x : List ℕ). Bytes x)
     (λ a b ha hb z. bytes-cons (first (value a) (value b)) [] (omega arith) bytes-none)
-    (λ a b c ha hb hc z. bytes-cons (first (value a) (value b)) (second (value b) (value c) ∷ []) (omega arith) (bytes-cons (second (value b) (value c)) [] (omega arith) bytes-none))
+    (λ a b c ha hb hc z. bytes-cons (first (value a) (value b)) (second (value b) (value c) ∷ []) (omega arith)
+    (bytes-cons (second (value b) (value c)) [] (omega arith) bytes-none))
     three-bytes)
     (λ a b c d t x some-text f e h. bytes-join (three a b c d) x (three-bytes a b c d f) h)
 
@@ -313,14 +337,7 @@ final-length =
     (λ a b c ha hb hc z. omega arith)
     (λ a b c d f. omega (arith, three-length a b c d))
 
--- what decodes has one byte at least
-pub decode-some : (t x : List ℕ) → decode t ≡ some x → 0 < length x
-decode-some =
-    decode-elim (λ (t x : List ℕ). 0 < length x)
-    (λ a b c d x e. final-length a b c d x e .0)
-    (λ a b c d t x some-text f e h. omega (arith, length-append (three a b c d) x, three-length a b c d))
-
--- and three bytes at most for each four characters
+-- what decodes has three bytes at most for each four characters
 pub decode-length : (t x : List ℕ) → decode t ≡ some x → length x ≤ length t / 4 * 3
 decode-length =
     decode-elim (λ (t x : List ℕ). length x ≤ length t / 4 * 3)
@@ -334,29 +351,6 @@ encode-length [] = refl
 encode-length (a ∷ []) = refl
 encode-length (a ∷ b ∷ []) = refl
 encode-length (a ∷ b ∷ c ∷ s) = omega (arith, encode-length s)
-
--- a number's character is a byte
-char-small : (v : ℕ) → char v < 256
-unfolding char
-char-small v =
-    pick-case (λ (n : ℕ). n < 256) (ltb v 26) _ _ (λ e. omega (arith, ltb-true v 26 e))
-    (λ e. pick-case (λ (n : ℕ). n < 256) (ltb v 52) _ _ (λ e. omega (arith, ltb-true v 52 e))
-    (λ e. pick-case (λ (n : ℕ). n < 256) (ltb v 62) _ _ (λ e. omega (arith, ltb-true v 62 e))
-    (λ e. pick-case (λ (n : ℕ). n < 256) (eqb v 62) 43 47 (λ e. lit< tt) (λ e. lit< tt))))
-
--- four bytes before others
-bytes-four : (a b c d : ℕ) (s : List ℕ) → a < 256 → b < 256 → c < 256 → d < 256 → Bytes s → Bytes (a ∷ b ∷ c ∷ d ∷ s)
-bytes-four a b c d s ha hb hc hd h =
-    bytes-cons a (b ∷ c ∷ d ∷ s) ha (bytes-cons b (c ∷ d ∷ s) hb (bytes-cons c (d ∷ s) hc (bytes-cons d s hd h)))
-
--- a text is bytes
-pub encode-bytes : (x : List ℕ) → Bytes x → Bytes (encode x)
-unfolding encode
-encode-bytes [] h = bytes-none
-encode-bytes (a ∷ []) h = bytes-four _ _ pad pad [] (char-small _) (char-small _) (lit< tt) (lit< tt) bytes-none
-encode-bytes (a ∷ b ∷ []) h = bytes-four _ _ _ pad [] (char-small _) (char-small _) (char-small _) (lit< tt) bytes-none
-encode-bytes (a ∷ b ∷ c ∷ s) h =
-    bytes-four _ _ _ _ (encode s) (char-small _) (char-small _) (char-small _) (char-small _) (encode-bytes s (λ (i : ℕ). h (suc (suc (suc i)))))
 
 -- a text that decodes is in groups of four
 pub decode-groups : (t x : List ℕ) → decode t ≡ some x → length t % 4 ≡ 0

@@ -40,13 +40,15 @@ encode (a ∷ b ∷ c ∷ s) = char (a / 4) ∷ char (a % 4 * 16 + b / 16) ∷ c
 abbrev pub known : ℕ → Bool
 known c = ltb (value c) 64
 
--- the bytes of four characters that stand for numbers, of three and of two, by the characters' numbers
+-- the first byte of a group, by its characters' numbers
 abbrev pub first : ℕ → ℕ → ℕ
 first p q = p * 4 + q / 16
 
+-- the second byte
 abbrev pub second : ℕ → ℕ → ℕ
 second q r = q % 16 * 16 + r / 4
 
+-- the third byte
 abbrev pub third : ℕ → ℕ → ℕ
 third r s = r % 4 * 64 + s
 
@@ -77,7 +79,8 @@ unfoldable pub ahead : List ℕ → Option (List ℕ) → Option (List ℕ)
 ahead x none = none
 ahead x (some s) = some (x ++ s)
 
--- the bytes that a text stands for, or nothing where it is not well formed
+-- the bytes that a text stands for, or nothing where it is not well formed: "a positive multiple of four characters, `=` only at the end,
+-- unused bits zero"
 unfoldable pub decode : List ℕ → Option (List ℕ)
 decode [] = none
 decode (a ∷ []) = none

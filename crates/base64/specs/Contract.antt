@@ -1,15 +1,14 @@
--- What the functions that decode and encode promise, in words of the definitions: the answer, and every byte of the lent buffer.
+-- What the decoder and the encoder promise their callers, in words of the definitions: the answer, and every byte of the lent buffer.
 -- Assumes nothing.
 use mathlib.Core.Path.{_≡_}
-use Prim.Native.Nat.{ℕ, zero, suc, _+_, _*_, _/_, _%_}
-use mathlib.Core.Bool.{Bool}
+use Prim.Native.Nat.{ℕ, _%_}
 use mathlib.Core.List.{List, [], _∷_, _++_}
 use mathlib.Core.Option.{Option, none, some}
-use lib.ListN.{length, getD, take}
+use lib.ListN.{length}
 use lib.Dec.{eqb}
 use Rattle.laws.specs.Choice.{pick}
 use Rattle.laws.specs.Bytes.{pasted}
-use Rattle.base64.specs.Base64.{char, value, encode, full, three, final, decode}
+use Rattle.base64.specs.Base64.{encode, full, three, final, decode}
 use Rattle.base64.specs.declared.Decoded.{Decoded}
 use Rattle.base64.specs.declared.Decoded.the-variants.{Bytes, Bad}
 
@@ -46,81 +45,3 @@ pub record Decodes (t d : List ℕ) (r : Decoded) (e : List ℕ) : Type 0 where
 pub record Encodes (x d : List ℕ) (r : ℕ) (e : List ℕ) : Type 0 where
   pub count : r ≡ length (encode x)
   pub text : e ≡ pasted d 0 (encode x)
-
--- the list f i, f (i + 1), .. of n numbers: a table of f
-unfoldable pub tab : (ℕ → ℕ) → ℕ → ℕ → List ℕ
-tab f i zero = []
-tab f i (suc n) = f i ∷ tab f (suc i) n
-
--- a list is the table of the numbers that bytes stand for
-abbrev pub Values : List ℕ → Type 0
-Values s = s ≡ tab value 0 256
-
--- a list is the table of the characters of the numbers below 64
-abbrev pub Chars : List ℕ → Type 0
-Chars s = s ≡ tab char 0 64
-
--- the four characters from i on stand for numbers
-abbrev pub fullAt : List ℕ → ℕ → Bool
-fullAt t i = full (getD t i 0) (getD t (i + 1) 0) (getD t (i + 2) 0) (getD t (i + 3) 0)
-
--- their bytes
-abbrev pub threeAt : List ℕ → ℕ → List ℕ
-threeAt t i = three (getD t i 0) (getD t (i + 1) 0) (getD t (i + 2) 0) (getD t (i + 3) 0)
-
--- the four characters from i on, read as the last group
-abbrev pub finalAt : List ℕ → ℕ → Option (List ℕ)
-finalAt t i = final (getD t i 0) (getD t (i + 1) 0) (getD t (i + 2) 0) (getD t (i + 3) 0)
-
--- the promise of one group from i on, whose bytes go to place o: whether it is full, and its bytes where it is
-pub record Group (t : List ℕ) (i : ℕ) (d : List ℕ) (o : ℕ) (r : Bool) (e : List ℕ) : Type 0 where
-  pub verdict : r ≡ fullAt t i
-  pub bytes : e ≡ pasted d o (pick (fullAt t i) (threeAt t i) [])
-
--- how many of the first n groups stand before the first that is not full
-unfoldable pub runCount : ℕ → List ℕ → ℕ
-runCount zero t = 0
-runCount (suc n) [] = 0
-runCount (suc n) (a ∷ []) = 0
-runCount (suc n) (a ∷ b ∷ []) = 0
-runCount (suc n) (a ∷ b ∷ c ∷ []) = 0
-runCount (suc n) (a ∷ b ∷ c ∷ d ∷ t) = pick (full a b c d) (suc (runCount n t)) 0
-
--- the bytes of those groups
-unfoldable pub run : ℕ → List ℕ → List ℕ
-run zero t = []
-run (suc n) [] = []
-run (suc n) (a ∷ []) = []
-run (suc n) (a ∷ b ∷ []) = []
-run (suc n) (a ∷ b ∷ c ∷ []) = []
-run (suc n) (a ∷ b ∷ c ∷ d ∷ t) = pick (full a b c d) (three a b c d ++ run n t) []
-
--- the promise of the first n groups: how many stand before the first that is not full, and their bytes
-pub record Groups (t : List ℕ) (n : ℕ) (d : List ℕ) (r : ℕ) (e : List ℕ) : Type 0 where
-  pub count : r ≡ runCount n t
-  pub bytes : e ≡ pasted d 0 (run n t)
-
--- the promise of a last group x, whose bytes go to place o: how many there are, none where it is at fault, and the bytes
-pub record Last (x : Option (List ℕ)) (d : List ℕ) (o r : ℕ) (e : List ℕ) : Type 0 where
-  pub count : r ≡ length (bytesIn x)
-  pub bytes : e ≡ pasted d o (bytesIn x)
-
--- the four characters of three bytes
-unfoldable pub four : ℕ → ℕ → ℕ → List ℕ
-four a b c = char (a / 4) ∷ char (a % 4 * 16 + b / 16) ∷ char (b % 16 * 4 + c / 64) ∷ char (c % 64) ∷ []
-
--- the four characters of the three bytes from i on
-abbrev pub fourAt : List ℕ → ℕ → List ℕ
-fourAt x i = four (getD x i 0) (getD x (i + 1) 0) (getD x (i + 2) 0)
-
--- the text of the first n groups of three bytes
-abbrev pub headText : List ℕ → ℕ → List ℕ
-headText x n = encode (take (3 * n) x)
-
--- the text of a last byte
-abbrev pub textOfOne : ℕ → List ℕ
-textOfOne a = encode (a ∷ [])
-
--- the text of the last two bytes
-abbrev pub textOfTwo : ℕ → ℕ → List ℕ
-textOfTwo a b = encode (a ∷ b ∷ [])

@@ -1,2 +1,3 @@
 pub mod Base64
 pub mod Contract
+pub mod Inner

@@ -3,8 +3,9 @@ ghost use mathlib.Core.Path.{_≡_};
 ghost use Prim.Native.Nat.{_+_, _*_, _/_, _<_, _≤_};
 ghost use lib.ListN.{length, getD};
 ghost use Rattle.laws.specs.Bytes.{pasted};
-ghost use Rattle.base64.specs.Base64.{char, value};
-ghost use Rattle.base64.specs.Contract.{Decodes, Encodes, Values, Chars, Group, Groups, Last, finalAt, fourAt, headText, textOfOne, textOfTwo};
+ghost use Rattle.base64.specs.Base64.{char, value, pad};
+ghost use Rattle.base64.specs.Contract.{Decodes, Encodes};
+ghost use Rattle.base64.specs.Inner.{Values, Chars, Group, Groups, Last, finalAt, headText, textOfThree, textOfOne, textOfTwo};
 
 // What a text decodes to: this many bytes, or it is not well formed.
 pub enum Decoded {
@@ -13,332 +14,27 @@ pub enum Decoded {
 }
 
 // The number that each byte stands for as a character, 64 where it stands for none.
-const VALUES: [u8; 256] = [
-    64,
-    64,
-    64,
-    64,
-    64,
-    64,
-    64,
-    64,
-    64,
-    64,
-    64,
-    64,
-    64,
-    64,
-    64,
-    64,
-    64,
-    64,
-    64,
-    64,
-    64,
-    64,
-    64,
-    64,
-    64,
-    64,
-    64,
-    64,
-    64,
-    64,
-    64,
-    64,
-    64,
-    64,
-    64,
-    64,
-    64,
-    64,
-    64,
-    64,
-    64,
-    64,
-    64,
-    62,
-    64,
-    64,
-    64,
-    63,
-    52,
-    53,
-    54,
-    55,
-    56,
-    57,
-    58,
-    59,
-    60,
-    61,
-    64,
-    64,
-    64,
-    64,
-    64,
-    64,
-    64,
-    0,
-    1,
-    2,
-    3,
-    4,
-    5,
-    6,
-    7,
-    8,
-    9,
-    10,
-    11,
-    12,
-    13,
-    14,
-    15,
-    16,
-    17,
-    18,
-    19,
-    20,
-    21,
-    22,
-    23,
-    24,
-    25,
-    64,
-    64,
-    64,
-    64,
-    64,
-    64,
-    26,
-    27,
-    28,
-    29,
-    30,
-    31,
-    32,
-    33,
-    34,
-    35,
-    36,
-    37,
-    38,
-    39,
-    40,
-    41,
-    42,
-    43,
-    44,
-    45,
-    46,
-    47,
-    48,
-    49,
-    50,
-    51,
-    64,
-    64,
-    64,
-    64,
-    64,
-    64,
-    64,
-    64,
-    64,
-    64,
-    64,
-    64,
-    64,
-    64,
-    64,
-    64,
-    64,
-    64,
-    64,
-    64,
-    64,
-    64,
-    64,
-    64,
-    64,
-    64,
-    64,
-    64,
-    64,
-    64,
-    64,
-    64,
-    64,
-    64,
-    64,
-    64,
-    64,
-    64,
-    64,
-    64,
-    64,
-    64,
-    64,
-    64,
-    64,
-    64,
-    64,
-    64,
-    64,
-    64,
-    64,
-    64,
-    64,
-    64,
-    64,
-    64,
-    64,
-    64,
-    64,
-    64,
-    64,
-    64,
-    64,
-    64,
-    64,
-    64,
-    64,
-    64,
-    64,
-    64,
-    64,
-    64,
-    64,
-    64,
-    64,
-    64,
-    64,
-    64,
-    64,
-    64,
-    64,
-    64,
-    64,
-    64,
-    64,
-    64,
-    64,
-    64,
-    64,
-    64,
-    64,
-    64,
-    64,
-    64,
-    64,
-    64,
-    64,
-    64,
-    64,
-    64,
-    64,
-    64,
-    64,
-    64,
-    64,
-    64,
-    64,
-    64,
-    64,
-    64,
-    64,
-    64,
-    64,
-    64,
-    64,
-    64,
-    64,
-    64,
-    64,
-    64,
-    64,
-    64,
-    64,
-    64,
-    64,
-    64,
-    64,
-    64,
-    64,
-    64,
-    64,
-    64,
-    64,
-];
+const VALUES: [u8; 256] = *b"\
+    \x40\x40\x40\x40\x40\x40\x40\x40\x40\x40\x40\x40\x40\x40\x40\x40\
+    \x40\x40\x40\x40\x40\x40\x40\x40\x40\x40\x40\x40\x40\x40\x40\x40\
+    \x40\x40\x40\x40\x40\x40\x40\x40\x40\x40\x40\x3E\x40\x40\x40\x3F\
+    \x34\x35\x36\x37\x38\x39\x3A\x3B\x3C\x3D\x40\x40\x40\x40\x40\x40\
+    \x40\x00\x01\x02\x03\x04\x05\x06\x07\x08\x09\x0A\x0B\x0C\x0D\x0E\
+    \x0F\x10\x11\x12\x13\x14\x15\x16\x17\x18\x19\x40\x40\x40\x40\x40\
+    \x40\x1A\x1B\x1C\x1D\x1E\x1F\x20\x21\x22\x23\x24\x25\x26\x27\x28\
+    \x29\x2A\x2B\x2C\x2D\x2E\x2F\x30\x31\x32\x33\x40\x40\x40\x40\x40\
+    \x40\x40\x40\x40\x40\x40\x40\x40\x40\x40\x40\x40\x40\x40\x40\x40\
+    \x40\x40\x40\x40\x40\x40\x40\x40\x40\x40\x40\x40\x40\x40\x40\x40\
+    \x40\x40\x40\x40\x40\x40\x40\x40\x40\x40\x40\x40\x40\x40\x40\x40\
+    \x40\x40\x40\x40\x40\x40\x40\x40\x40\x40\x40\x40\x40\x40\x40\x40\
+    \x40\x40\x40\x40\x40\x40\x40\x40\x40\x40\x40\x40\x40\x40\x40\x40\
+    \x40\x40\x40\x40\x40\x40\x40\x40\x40\x40\x40\x40\x40\x40\x40\x40\
+    \x40\x40\x40\x40\x40\x40\x40\x40\x40\x40\x40\x40\x40\x40\x40\x40\
+    \x40\x40\x40\x40\x40\x40\x40\x40\x40\x40\x40\x40\x40\x40\x40\x40\
+    ";
 
 // The character that stands for each number below 64.
-const CHARS: [u8; 64] = [
-    65,
-    66,
-    67,
-    68,
-    69,
-    70,
-    71,
-    72,
-    73,
-    74,
-    75,
-    76,
-    77,
-    78,
-    79,
-    80,
-    81,
-    82,
-    83,
-    84,
-    85,
-    86,
-    87,
-    88,
-    89,
-    90,
-    97,
-    98,
-    99,
-    100,
-    101,
-    102,
-    103,
-    104,
-    105,
-    106,
-    107,
-    108,
-    109,
-    110,
-    111,
-    112,
-    113,
-    114,
-    115,
-    116,
-    117,
-    118,
-    119,
-    120,
-    121,
-    122,
-    48,
-    49,
-    50,
-    51,
-    52,
-    53,
-    54,
-    55,
-    56,
-    57,
-    43,
-    47,
-];
+const CHARS: [u8; 64] = *b"ABCDEFGHIJKLMNOPQRSTUVWXYZabcdefghijklmnopqrstuvwxyz0123456789+/";
 
 // The table of the numbers.
 fn values() -> [u8; 256]
@@ -355,7 +51,8 @@ fn look(table: &[u8; 256], c: u8) -> u8
     table[c as usize]
 }
 
-// Decodes the four characters from i on to three bytes at o, where all four stand for numbers; else nothing is stored.
+// Decodes the four characters from i on to three bytes at o, by one word of 24 bits, where all four stand for numbers; else nothing is
+// stored.
 fn group(table: &[u8; 256], text: &[u8], i: usize, out: &mut [u8], o: usize) -> bool
     requires { ⌜ Values (now table) ⌝ }
     requires { ⌜ i + 4 ≤ length (now text) ⌝ }
@@ -367,9 +64,10 @@ fn group(table: &[u8; 256], text: &[u8], i: usize, out: &mut [u8], o: usize) -> 
     let c = look(table, text[i + 2]);
     let d = look(table, text[i + 3]);
     if (a | b | c | d) < 64 {
-        out[o] = a * 4 + b / 16;
-        out[o + 1] = b % 16 * 16 + c / 4;
-        out[o + 2] = c % 4 * 64 + d;
+        let w = (a as u32) * 262144 + (b as u32) * 4096 + (c as u32) * 64 + (d as u32);
+        out[o] = (w / 65536) as u8;
+        out[o + 1] = (w / 256 % 256) as u8;
+        out[o + 2] = (w % 256) as u8;
         return true;
     }
     false
@@ -378,7 +76,7 @@ fn group(table: &[u8; 256], text: &[u8], i: usize, out: &mut [u8], o: usize) -> 
 // Decodes groups from the start until one is at fault or n are done, and gives how many were good.
 fn groups(table: &[u8; 256], text: &[u8], n: usize, out: &mut [u8]) -> usize
     requires { ⌜ Values (now table) ⌝ }
-    requires { ⌜ 4 * n ≤ length (now text) ⌝ }
+    requires { ⌜ 4 * n + 4 ≤ length (now text) ⌝ }
     requires { ⌜ 3 * n ≤ length (now out) ⌝ }
     ensures { λ r. ⌜ Groups (now (text .entry)) n (now (out .entry)) r (now (out .exit)) ⌝ }
 {
@@ -397,8 +95,8 @@ fn last_one(table: &[u8; 256], text: &[u8], i: usize, out: &mut [u8], o: usize) 
     requires { ⌜ Values (now table) ⌝ }
     requires { ⌜ i + 4 ≤ length (now text) ⌝ }
     requires { ⌜ o + 3 ≤ length (now out) ⌝ }
-    requires { ⌜ getD (now text) (i + 2) 0 ≡ 61 ⌝ }
-    requires { ⌜ getD (now text) (i + 3) 0 ≡ 61 ⌝ }
+    requires { ⌜ getD (now text) (i + 2) 0 ≡ pad ⌝ }
+    requires { ⌜ getD (now text) (i + 3) 0 ≡ pad ⌝ }
     ensures { λ r. ⌜ Last (finalAt (now (text .entry)) i) (now (out .entry)) o r (now (out .exit)) ⌝ }
 {
     let a = look(table, text[i]);
@@ -421,8 +119,8 @@ fn last_two(table: &[u8; 256], text: &[u8], i: usize, out: &mut [u8], o: usize) 
     requires { ⌜ Values (now table) ⌝ }
     requires { ⌜ i + 4 ≤ length (now text) ⌝ }
     requires { ⌜ o + 3 ≤ length (now out) ⌝ }
-    requires { ⌜ (getD (now text) (i + 2) 0 ≡ 61 → ⊥) ⌝ }
-    requires { ⌜ getD (now text) (i + 3) 0 ≡ 61 ⌝ }
+    requires { ⌜ (getD (now text) (i + 2) 0 ≡ pad → ⊥) ⌝ }
+    requires { ⌜ getD (now text) (i + 3) 0 ≡ pad ⌝ }
     ensures { λ r. ⌜ Last (finalAt (now (text .entry)) i) (now (out .entry)) o r (now (out .exit)) ⌝ }
 {
     let a = look(table, text[i]);
@@ -452,8 +150,8 @@ fn last(table: &[u8; 256], text: &[u8], i: usize, out: &mut [u8], o: usize) -> u
     requires { ⌜ o + 3 ≤ length (now out) ⌝ }
     ensures { λ r. ⌜ Last (finalAt (now (text .entry)) i) (now (out .entry)) o r (now (out .exit)) ⌝ }
 {
-    if text[i + 3] == 61 {
-        if text[i + 2] == 61 {
+    if text[i + 3] == b'=' {
+        if text[i + 2] == b'=' {
             return last_one(table, text, i, out, o);
         }
         return last_two(table, text, i, out, o);
@@ -510,7 +208,7 @@ fn encode_group(table: &[u8; 64], raw: &[u8], i: usize, out: &mut [u8], o: usize
     requires { ⌜ Chars (now table) ⌝ }
     requires { ⌜ i + 3 ≤ length (now raw) ⌝ }
     requires { ⌜ o + 4 ≤ length (now out) ⌝ }
-    ensures { λ _. ⌜ now (out .exit) ≡ pasted (now (out .entry)) o (fourAt (now (raw .entry)) i) ⌝ }
+    ensures { λ _. ⌜ now (out .exit) ≡ pasted (now (out .entry)) o (textOfThree (now (raw .entry)) i) ⌝ }
 {
     let a = raw[i];
     let b = raw[i + 1];
@@ -549,8 +247,8 @@ fn encode_one(table: &[u8; 64], a: u8, out: &mut [u8], o: usize)
     let q = letter(table, a % 4 * 16);
     out[o] = p;
     out[o + 1] = q;
-    out[o + 2] = 61;
-    out[o + 3] = 61;
+    out[o + 2] = b'=';
+    out[o + 3] = b'=';
 }
 
 // Encodes the last two bytes to three characters and `=` at o.
@@ -565,7 +263,7 @@ fn encode_two(table: &[u8; 64], a: u8, b: u8, out: &mut [u8], o: usize)
     out[o] = p;
     out[o + 1] = q;
     out[o + 2] = r;
-    out[o + 3] = 61;
+    out[o + 3] = b'=';
 }
 
 // Encodes raw to the start of out, and gives how many characters that is.

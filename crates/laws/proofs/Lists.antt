@@ -1,16 +1,15 @@
 -- Laws of lists of bytes: a list written into another at a place, and that the parts of bytes are bytes.
 -- Assumes nothing.
 use mathlib.Core.Path.{_≡_, refl, sym, ap, ap₂, _∙_}
-use Prim.Native.Nat.{ℕ, zero, suc, _+_, _-_, _*_, _/_, _%_, _≤_, _<_}
+use Prim.Native.Nat.{ℕ, zero, suc, _+_, _-_, _≤_, _<_}
 use native.Mathlib.Nat.{zero-add, add-zero}
 use native.Mathlib.Omega.{arith}
 use mathlib.Core.List.{List, [], _∷_, _++_, append-assoc, append-nil}
 use native.Mathlib.Numerals.{add-one}
-use lib.ListN.{length, getD, take, drop, set, length-set, length-append, length-take, length-drop, take-append-drop, drop-of-length-le}
+use lib.ListN.{length, take, drop, set, length-set, length-append, length-take, length-drop, take-append-drop, drop-of-length-le}
 use lib.Seq.{take-length, take-append-add, drop-append-add, drop-drop, take-all, take-at, set-split}
-use lib.Dec.{lit<}
 use mathlib.Core.Bool.{Bool, true, false, false≢true}
-use lib.Dec.{eqb}
+use lib.Dec.{eqb, lit<}
 use borrow.Author.Tests.{eqb-true, eq-eqb}
 use Rattle.laws.specs.Bytes.{Bytes, pasted, same, be16, ofBe16}
 use Rattle.laws.proofs.Choice.{both-yes, both-true}
@@ -95,16 +94,13 @@ pasted-drop m at x n h =
 -- one list after another is written as the two joined
 pub pasted-twice : (m : List ℕ) (at : ℕ) (x y : List ℕ) → at + length x ≤ length m → pasted (pasted m at x) (at + length x) y ≡ pasted m at (x ++ y)
 pasted-twice m at x y h =
-    open-pasted (pasted m at x) (at + length x) y
+    pasted-is (pasted m at x) (at + length x) y
     ∙ ap₂ (λ (p q : List ℕ). p ++ (y ++ q)) (pasted-take m at x h) (pasted-drop m at x (length y) h)
     ∙ append-assoc (take at m) x (y ++ drop (at + length x + length y) m)
     ∙ ap (λ (l : List ℕ). take at m ++ l) (sym (append-assoc x y (drop (at + length x + length y) m)))
     ∙ ap (λ (k : ℕ). take at m ++ ((x ++ y) ++ drop k m)) (sum at x y)
-    ∙ sym (open-pasted m at (x ++ y))
+    ∙ sym (pasted-is m at (x ++ y))
   where
-    open-pasted : (m : List ℕ) (at : ℕ) (x : List ℕ) → pasted m at x ≡ take at m ++ (x ++ drop (at + length x) m)
-    open-pasted m at x = pasted-is m at x
-
     sum : (at : ℕ) (x y : List ℕ) → at + length x + length y ≡ at + length (x ++ y)
     sum at x y = rw length-append (omega arith)
 

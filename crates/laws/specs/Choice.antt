@@ -1,7 +1,6 @@
 -- A choice by a Bool, which stays shut until a law opens it: the definitions of the layers above are chains of such choices, in the
 -- order of the rules' checks.
 -- Assumes nothing.
-use mathlib.Core.Path.{_≡_, refl}
 use mathlib.Core.Bool.{Bool, true, false}
 
 -- the first where the test holds, else the second

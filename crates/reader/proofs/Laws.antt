@@ -2,25 +2,25 @@
 -- Assumes nothing.
 use mathlib.Core.Path.{_≡_, refl, sym, ap, _∙_}
 use mathlib.Core.Bool.{Bool, true, false}
-use mathlib.Core.Option.{Option, none, some}
-use lib.Dec.{eqb}
+use mathlib.Core.Option.{none}
 use mathlib.Core.List.{List, _∷_, _++_}
 use Prim.Native.Nat.{ℕ, _+_, _-_, _≤_, _<_}
 use native.Mathlib.Omega.{arith}
+use lib.Dec.{eqb}
 use lib.ListN.{length, getD, take, drop, length-take, length-drop}
 use lib.Seq.{getD-drop, take-all, length-take-le}
 use borrow.Author.Tests.{le-leb, lt-leb, le-ltb, lt-ltb, eq-eqb, ne-eqb}
+use Rattle.laws.specs.Choice.{pick}
 use Rattle.laws.specs.Bytes.{pasted, ofBe16}
-use Rattle.laws.proofs.Choice.{pick-yes, pick-no, pick-same, both-yes, both-no, both-last-no}
+use Rattle.laws.proofs.Choice.{pick-yes, pick-no, both-yes, both-no, both-last-no}
 use Rattle.laws.proofs.Lists.{pasted-none, pasted-take}
 use Rattle.crc.specs.Crc.{crcOf}
-use Rattle.reader.specs.declared.Reader.the-variants.{Idle, Open}
-use Rattle.reader.specs.Reader.{more, body, keeping, dropping, possible, bodyOf, crcBytes, filled, waiting, completed, absorb, begin, resume, begun, resumed, takeLine}
-use Rattle.reader.specs.declared.Reader.{Reader}
-use Rattle.frame.specs.Line.{marked, ended, textOf}
 use Rattle.base64.specs.Base64.{decode}
-use Rattle.laws.specs.Choice.{pick}
-use Rattle.reader.specs.Frame.{framed}
+use Rattle.frame.specs.Line.{longest, newline, initial, partial, marked, beginsWith, ended, textOf}
+use Rattle.reader.specs.declared.Reader.{Reader}
+use Rattle.reader.specs.declared.Reader.the-variants.{Idle, Open}
+use Rattle.reader.specs.Reader.{more, body, keeping, dropping, possible, bodyOf, crcBytes, filled, waiting, completed, absorb}
+use Rattle.reader.specs.Reader.{begin, resume, begun, resumed, framed, takeLine}
 
 -- the CRC bytes stand in x after the body
 pub crc-in-frame : (total come first : ℕ) (x : List ℕ) (i : ℕ) → come ≤ total - 2 → getD (crcBytes total come first x) i 0 ≡ getD x (total - 2 - come + i) 0
@@ -50,7 +50,8 @@ filled-none total come x p h =
     rw e (pasted-none p come)
 
 -- the body that a packet ends with stands in the buffer and in x
-pub due-both : (total come : ℕ) (x p : List ℕ) → come < total - 2 → total - 2 ≤ length p → total ≤ come + length x → take (total - 2) (filled total come x p) ≡ take come p ++ take (total - 2 - come) x
+pub due-both : (total come : ℕ) (x p : List ℕ) → come < total - 2 → total - 2 ≤ length p → total ≤ come + length x
+    → take (total - 2) (filled total come x p) ≡ take come p ++ take (total - 2 - come) x
 due-both total come x p h room all =
     let n : length (take (total - 2 - come) x) ≡ total - 2 - come = length-take-le (total - 2 - come) x (omega arith) in
     let e : come + length (take (total - 2 - come) x) ≡ total - 2 = omega arith in
@@ -59,11 +60,14 @@ due-both total come x p h room all =
     ∙ pasted-take p come (take (total - 2 - come) x) (omega arith)
 
 -- a packet whose CRC differs, and one whose CRC is right
-pub completed-wrong : (total come first : ℕ) (x p : List ℕ) → (ofBe16 (crcBytes total come first x) ≡ crcOf (take (total - 2) (filled total come x p)) → ⊥) → completed total come first x p ≡ dropping 9 p
+pub completed-wrong : (total come first : ℕ) (x p : List ℕ)
+    → (ofBe16 (crcBytes total come first x) ≡ crcOf (take (total - 2) (filled total come x p)) → ⊥)
+    → completed total come first x p ≡ dropping 9 p
 unfolding completed
 completed-wrong total come first x p h = simp (ne-eqb _ _ h, pick-no)
 
-pub completed-right : (total come first : ℕ) (x p : List ℕ) → ofBe16 (crcBytes total come first x) ≡ crcOf (take (total - 2) (filled total come x p)) → completed total come first x p ≡ record { says = body (total - 2); reader = Idle; buffer = filled total come x p }
+pub completed-right : (total come first : ℕ) (x p : List ℕ) → ofBe16 (crcBytes total come first x) ≡ crcOf (take (total - 2) (filled total come x p))
+    → completed total come first x p ≡ record { says = body (total - 2); reader = Idle; buffer = filled total come x p }
 unfolding completed
 completed-right total come first x p h = simp (eq-eqb _ _ h, pick-yes)
 
@@ -76,13 +80,15 @@ pub absorb-many : (total come first : ℕ) (x p : List ℕ) → total - 2 ≤ le
 unfolding absorb
 absorb-many total come first x p h k = simp (le-ltb _ _ h, pick-no, lt-ltb _ _ k, pick-yes)
 
-pub absorb-more : (total come first : ℕ) (x p : List ℕ) → total - 2 ≤ length p → come + length x < total → absorb total come first x p ≡ record { says = more; reader = waiting total come first x; buffer = filled total come x p }
+pub absorb-more : (total come first : ℕ) (x p : List ℕ) → total - 2 ≤ length p → come + length x < total
+    → absorb total come first x p ≡ record { says = more; reader = waiting total come first x; buffer = filled total come x p }
 unfolding absorb
 absorb-more total come first x p h k =
     let n : come + length x ≤ total = omega arith in
     simp (le-ltb _ _ h, le-ltb _ _ n, pick-no, lt-ltb _ _ k, pick-yes)
 
-pub absorb-last : (total come first : ℕ) (x p : List ℕ) → total - 2 ≤ length p → come + length x ≤ total → total ≤ come + length x → absorb total come first x p ≡ completed total come first x p
+pub absorb-last : (total come first : ℕ) (x p : List ℕ) → total - 2 ≤ length p → come + length x ≤ total → total ≤ come + length x
+    → absorb total come first x p ≡ completed total come first x p
 unfolding absorb
 absorb-last total come first x p h k l = simp (le-ltb _ _ h, le-ltb _ _ k, le-ltb _ _ l, pick-no)
 
@@ -104,17 +110,21 @@ unfolding possible
 possible-is total come h k l = simp (le-leb _ _ h, le-leb _ _ k, lt-ltb _ _ l, both-yes)
 
 -- a partial frame: no packet open, an impossible record, and a possible one
-pub resume-idle : (raw p : List ℕ) → resume Idle raw p ≡ keeping 5 Idle p
+pub resume-idle : (r : Reader) → r ≡ Idle → (raw p : List ℕ) → keeping 5 r p ≡ resume r raw p
 unfolding resume
-resume-idle raw p = refl
+resume-idle r e raw p = rw e
 
-pub resume-impossible : (total come first : ℕ) (raw p : List ℕ) → possible total come ≡ false → resume (Open total come first) raw p ≡ keeping 5 (Open total come first) p
+pub resume-impossible : (r : Reader) (total come first : ℕ) → r ≡ Open total come first → possible total come ≡ false
+    → (raw p : List ℕ)
+    → keeping 5 (Open total come first) p ≡ resume r raw p
 unfolding resume
-resume-impossible total come first raw p h = simp (h, pick-no)
+resume-impossible r total come first e h raw p = rw (e, h, pick-no)
 
-pub resume-possible : (total come first : ℕ) (raw p : List ℕ) → possible total come ≡ true → resume (Open total come first) raw p ≡ absorb total come first raw p
+pub resume-possible : (r : Reader) (total come first : ℕ) → r ≡ Open total come first → possible total come ≡ true
+    → (raw p : List ℕ)
+    → absorb total come first raw p ≡ resume r raw p
 unfolding resume
-resume-possible total come first raw p h = simp (h, pick-yes)
+resume-possible r total come first e h raw p = rw (e, h, pick-yes)
 
 -- an initial frame: too short, a small total, and a packet that begins
 pub begin-short : (raw p : List ℕ) → length raw < 2 → begin raw p ≡ dropping 6 p
@@ -129,18 +139,11 @@ pub begin-packet : (raw p : List ℕ) → 2 ≤ length raw → 10 ≤ ofBe16 raw
 unfolding begin
 begin-packet raw p h k = simp (le-ltb _ _ h, le-ltb _ _ k, pick-no)
 
--- a frame whose text is not well formed, an initial one, and a partial one
-pub framed-bad : (initial : Bool) (r : Reader) (text : Option (List ℕ)) (p : List ℕ) → text ≡ none → framed initial r text p ≡ dropping 4 p
-unfolding framed begun resumed
-framed-bad initial r text p e = rw e (pick-same initial (dropping 4 p))
-
-pub framed-initial : (initial : Bool) (r : Reader) (text : Option (List ℕ)) (raw p : List ℕ) → initial ≡ true → text ≡ some raw → framed initial r text p ≡ begin raw p
-unfolding framed begun
-framed-initial initial r text raw p e f = rw (e, f, pick-yes)
-
-pub framed-partial : (initial : Bool) (r : Reader) (text : Option (List ℕ)) (raw p : List ℕ) → initial ≡ false → text ≡ some raw → framed initial r text p ≡ resume r raw p
-unfolding framed resumed
-framed-partial initial r text raw p e f = rw (e, f, pick-no)
+-- a frame whose text is not well formed
+pub framed-bad : (initial : Bool) (r : Reader) (p : List ℕ) → framed initial r none p ≡ dropping 4 p
+unfolding begun resumed
+framed-bad true r p = refl
+framed-bad false r p = refl
 
 -- a line's marker, by its two bytes
 pub marked-both : (a b : ℕ) (line : List ℕ) → getD line 0 0 ≡ a → eqb (getD line 1 0) b ≡ marked a b line
@@ -151,31 +154,41 @@ pub marked-not : (a b : ℕ) (line : List ℕ) → (getD line 0 0 ≡ a → ⊥)
 unfolding marked
 marked-not a b line h = simp (ne-eqb _ _ h, both-no)
 
--- a line that is too long, too short, not ended, or has no marker
-pub line-long : (r : Reader) (line p : List ℕ) → 127 < length line → takeLine r line p ≡ keeping 2 r p
+-- a line that is too long, too short, or not ended
+pub line-long : (r : Reader) (line p : List ℕ) → longest < length line → takeLine r line p ≡ keeping 2 r p
 unfolding takeLine
 line-long r line p h = simp (lt-ltb _ _ h, pick-yes)
 
 pub line-short : (r : Reader) (line p : List ℕ) → length line < 3 → takeLine r line p ≡ keeping 3 r p
 unfolding takeLine
 line-short r line p h =
-    let n : length line ≤ 127 = omega arith in
+    let n : length line ≤ longest = omega arith in
     simp (le-ltb _ _ n, pick-no, lt-ltb _ _ h, pick-yes)
 
-pub line-unended : (r : Reader) (line p : List ℕ) → 3 ≤ length line → length line ≤ 127 → (getD line (length line - 1) 0 ≡ 0x0A → ⊥) → takeLine r line p ≡ keeping 3 r p
+pub line-unended : (r : Reader) (line p : List ℕ) → 3 ≤ length line → length line ≤ longest
+    → (getD line (length line - 1) 0 ≡ newline → ⊥)
+    → takeLine r line p ≡ keeping 3 r p
 unfolding takeLine ended
 line-unended r line p h k e = simp (le-ltb _ _ k, le-ltb _ _ h, pick-no, ne-eqb _ _ e, pick-yes)
 
--- a line that passes: by its marker
-pub line-marked : (r : Reader) (line p : List ℕ) → 3 ≤ length line → length line ≤ 127 → getD line (length line - 1) 0 ≡ 0x0A
-    → takeLine r line p
-    ≡ pick (marked 0x06 0x09 line) (framed true r (decode (textOf line)) p)
-    (pick (marked 0x04 0x14 line) (framed false r (decode (textOf line)) p)
-    (keeping 3 r p))
-unfolding takeLine ended framed
-line-marked r line p h k e = simp (le-ltb _ _ k, le-ltb _ _ h, pick-no, eq-eqb _ _ e, pick-yes)
+-- a line that passes these tests: by its marker, or with none
+module _ (r : Reader) (line p : List ℕ) (low : 3 ≤ length line) (high : length line ≤ longest) (end : getD line (length line - 1) 0 ≡ newline) where
+  by-marker : takeLine r line p
+      ≡ pick (beginsWith initial line) (framed true r (decode (textOf line)) p)
+      (pick (beginsWith partial line) (framed false r (decode (textOf line)) p)
+      (keeping 3 r p))
+  unfolding takeLine ended
+  by-marker = simp (le-ltb _ _ high, le-ltb _ _ low, pick-no, eq-eqb _ _ end)
 
--- a line of 127 bytes has a text of 124
+  pub line-framed : (first : Bool) → first ≡ beginsWith initial line → (first ≡ false → beginsWith partial line ≡ true)
+      → takeLine r line p ≡ framed first r (decode (textOf line)) p
+  line-framed true e f = by-marker ∙ rw (← e, pick-yes)
+  line-framed false e f = by-marker ∙ rw (← e, pick-no, f refl, pick-yes)
+
+  pub line-unmarked : beginsWith initial line ≡ false → beginsWith partial line ≡ false → takeLine r line p ≡ keeping 3 r p
+  line-unmarked e f = by-marker ∙ rw (e, pick-no, f, pick-no)
+
+-- a text is three bytes shorter than its line
 pub text-size : (line : List ℕ) → length (textOf line) ≤ length line - 3
 unfolding textOf
 text-size line = simp (length-take, length-drop) (omega arith)

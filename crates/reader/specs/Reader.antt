@@ -2,8 +2,8 @@
 -- buffer. The checks stand in the order of the refusals 2 to 9.
 -- Assumes nothing.
 use Prim.Native.Nat.{ℕ, _+_, _-_}
-use mathlib.Core.Bool.{Bool, not}
-use mathlib.Core.List.{List, [], _∷_}
+use mathlib.Core.Bool.{Bool, true, false, not}
+use mathlib.Core.List.{List, _∷_}
 use mathlib.Core.Option.{Option, none, some}
 use lib.Dec.{ltb, leb, eqb}
 use lib.ListN.{length, getD, take, drop}
@@ -12,7 +12,7 @@ use Rattle.laws.specs.Bytes.{pasted, ofBe16}
 use Rattle.refusal.specs.Number.{numberOf}
 use Rattle.crc.specs.Crc.{crcOf}
 use Rattle.base64.specs.Base64.{decode}
-use Rattle.frame.specs.Line.{marked, ended, textOf}
+use Rattle.frame.specs.Line.{longest, initial, partial, beginsWith, ended, textOf}
 use Rattle.reader.specs.declared.Reader.{Reader}
 use Rattle.reader.specs.declared.Reader.the-variants.{Idle, Open}
 use Rattle.reader.specs.declared.Answer.{Answer}
@@ -61,7 +61,8 @@ bodyOf total come x = take (total - 2 - come) x
 unfoldable pub crcBytes : ℕ → ℕ → ℕ → List ℕ → List ℕ
 crcBytes total come first x = pick (leb come (total - 2)) (drop (total - 2 - come) x) (first ∷ x)
 
--- the packet buffer with this frame's bytes in
+-- the packet buffer with this frame's bytes in: "Body bytes go to the lent packet buffer in order, its other bytes stay, and the CRC does
+-- not go there."
 unfoldable pub filled : ℕ → ℕ → List ℕ → List ℕ → List ℕ
 filled total come x p = pasted p come (bodyOf total come x)
 
@@ -76,7 +77,8 @@ completed total come first x p =
     (record { says = body (total - 2); reader = Idle; buffer = filled total come x p })
     (dropping 9 p)
 
--- body and CRC bytes x come on top of `come` others of a packet of this total: refusals 7 and 8, then more or complete
+-- body and CRC bytes x come on top of `come` others of a packet of this total: refusals 7 and 8; then "the packet is complete when as many
+-- bytes have come as total says; the answer is then the body length with the record idle, otherwise that more is wanted"
 unfoldable pub absorb : ℕ → ℕ → ℕ → List ℕ → List ℕ → Outcome
 absorb total come first x p =
     pick (ltb (length p) (total - 2)) (dropping 7 p)
@@ -85,14 +87,16 @@ absorb total come first x p =
     (record { says = more; reader = waiting total come first x; buffer = filled total come x p })
     (completed total come first x p)))
 
--- the raw bytes of an initial frame: "Total stands whole in the initial frame", and is 10 at least: refusal 6
+-- the raw bytes of an initial frame: "An initial frame drops an unfinished packet and starts anew."; "Total stands whole in the initial
+-- frame", and is 10 at least: refusal 6
 unfoldable pub begin : List ℕ → List ℕ → Outcome
 begin raw p =
     pick (ltb (length raw) 2) (dropping 6 p)
     (pick (ltb (ofBe16 raw) 10) (dropping 6 p)
     (absorb (ofBe16 raw) 0 0 (drop 2 raw) p))
 
--- the raw bytes of a partial frame: refusal 5 where no packet is open
+-- the raw bytes of a partial frame: refusal 5 where no packet is open, and "an open one outside these bounds is refused 5 for a partial
+-- frame"
 unfoldable pub resume : Reader → List ℕ → List ℕ → Outcome
 resume Idle raw p = keeping 5 Idle p
 resume (Open total come first) raw p =
@@ -109,12 +113,17 @@ unfoldable pub resumed : Option (List ℕ) → Reader → List ℕ → Outcome
 resumed none r p = dropping 4 p
 resumed (some raw) r p = resume r raw p
 
--- a line is taken: refusals 2 and 3, then by its marker
+-- a frame by its marker, its text decoded or not: an initial one begins a packet, a partial one goes on with the open one
+abbrev pub framed : Bool → Reader → Option (List ℕ) → List ℕ → Outcome
+framed true r text p = begun text p
+framed false r text p = resumed text r p
+
+-- "The reader takes one line at a time.": refusals 2 and 3, then by its marker
 unfoldable pub takeLine : Reader → List ℕ → List ℕ → Outcome
 takeLine r line p =
-    pick (ltb 127 (length line)) (keeping 2 r p)
+    pick (ltb longest (length line)) (keeping 2 r p)
     (pick (ltb (length line) 3) (keeping 3 r p)
     (pick (not (ended line)) (keeping 3 r p)
-    (pick (marked 0x06 0x09 line) (begun (decode (textOf line)) p)
-    (pick (marked 0x04 0x14 line) (resumed (decode (textOf line)) r p)
+    (pick (beginsWith initial line) (framed true r (decode (textOf line)) p)
+    (pick (beginsWith partial line) (framed false r (decode (textOf line)) p)
     (keeping 3 r p)))))

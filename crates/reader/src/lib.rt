@@ -3,15 +3,16 @@ use base64::Decoded;
 use refusal::Refusal;
 ghost use mathlib.Core.Path.{_≡_};
 ghost use mathlib.Core.List.{List};
+ghost use mathlib.Core.Option.{some};
 ghost use Prim.Native.Nat.{ℕ, _+_, _-_, _≤_, _<_};
 ghost use lib.ListN.{length, getD, take};
-ghost use Rattle.laws.specs.Bytes.{pasted, ofBe16};
+ghost use Rattle.laws.specs.Bytes.{ofBe16};
 ghost use Rattle.crc.specs.Crc.{crcOf};
-ghost use Rattle.reader.specs.Reader.{outcome, crcBytes, filled, waiting, completed, absorb, begin, resume, takeLine};
-ghost use Rattle.reader.specs.Frame.{framed};
 ghost use Rattle.base64.specs.Base64.{decode};
 ghost use Rattle.base64.specs.Contract.{Decodes};
-ghost use Rattle.frame.specs.Line.{marked, textOf};
+ghost use Rattle.frame.specs.Line.{longest, rawMost, beginsWith, textOf};
+ghost use Rattle.reader.specs.Reader.{outcome, crcBytes, filled, waiting, completed, absorb, begin, resume, framed, takeLine};
+ghost use Rattle.reader.specs.Inner.{Starts};
 
 // The reader's record between two lines.
 pub enum Reader {
@@ -179,60 +180,109 @@ fn take_bytes(total: usize, come: usize, first: u8, x: &[u8], p: &mut [u8]) -> T
     complete(total, come, first, x, p)
 }
 
+// What a frame's raw bytes go on with.
+enum Start {
+    // Body and CRC bytes of a packet, from this raw byte on, which come on top of `come` others.
+    At {
+        total: usize,
+        come: usize,
+        first: u8,
+        from: usize,
+    },
+    // The frame is refused.
+    Refused(Taken),
+}
+
 // The raw bytes of an initial frame begin a packet, whatever was open.
-fn begin_packet(raw: &[u8], p: &mut [u8]) -> Taken
-    ensures { λ r. ⌜ outcome r (now (p .exit)) ≡ begin (now (raw .entry)) (now (p .entry)) ⌝ }
+fn begin_packet(raw: &[u8]) -> Start
+    ensures { λ r. ⌜ Starts r (now (raw .entry)) (begin (now (raw .entry))) ⌝ }
 {
     if raw.len() < 2 {
-        return Taken {
+        return Start::Refused(Taken {
             answer: Answer::Refused(Refusal::BadTotal),
             reader: Reader::Idle,
-        };
+        });
     }
     let total = laws::wide(raw[0]) * 256 + laws::wide(raw[1]);
     if total < 10 {
-        return Taken {
+        return Start::Refused(Taken {
             answer: Answer::Refused(Refusal::BadTotal),
             reader: Reader::Idle,
-        };
+        });
     }
-    take_bytes(total, 0, 0, &raw[2..], p)
+    Start::At {
+        total,
+        come: 0,
+        first: 0,
+        from: 2,
+    }
 }
 
 // The raw bytes of a partial frame go on with the open packet.
-fn resume_packet(reader: Reader, raw: &[u8], p: &mut [u8]) -> Taken
-    ensures { λ r. ⌜ outcome r (now (p .exit)) ≡ resume reader (now (raw .entry)) (now (p .entry)) ⌝ }
+fn resume_packet(reader: Reader) -> Start
+    ensures { λ r. ⌜ ((raw : List ℕ) → Starts r raw (resume reader raw)) ⌝ }
 {
     let Reader::Open { total, come, first } = reader else {
-        return Taken {
+        return Start::Refused(Taken {
             answer: Answer::Refused(Refusal::NoPacketOpen),
             reader,
-        };
+        });
     };
     if total < 10 {
-        return Taken {
+        return Start::Refused(Taken {
             answer: Answer::Refused(Refusal::NoPacketOpen),
             reader,
-        };
+        });
     }
     if 65535 < total {
-        return Taken {
+        return Start::Refused(Taken {
             answer: Answer::Refused(Refusal::NoPacketOpen),
             reader,
-        };
+        });
     }
     if total <= come {
-        return Taken {
+        return Start::Refused(Taken {
             answer: Answer::Refused(Refusal::NoPacketOpen),
             reader,
-        };
+        });
     }
-    take_bytes(total, come, first, raw, p)
+    Start::At {
+        total,
+        come,
+        first,
+        from: 0,
+    }
+}
+
+// What the raw bytes of a frame go on with, by its marker.
+fn start_of(initial: bool, reader: Reader, raw: &[u8]) -> Start
+    ensures { λ r. ⌜ Starts r (now (raw .entry)) (framed initial reader (some (now (raw .entry)))) ⌝ }
+{
+    if initial {
+        return begin_packet(raw);
+    }
+    resume_packet(reader)
+}
+
+// The raw bytes of a frame are taken.
+fn take_raw(initial: bool, reader: Reader, raw: &[u8], p: &mut [u8]) -> Taken
+    ensures { λ r. ⌜ outcome r (now (p .exit)) ≡ framed initial reader (some (now (raw .entry))) (now (p .entry)) ⌝ }
+{
+    let start = start_of(initial, reader, raw);
+    match start {
+        Start::At {
+            total,
+            come,
+            first,
+            from,
+        } => take_bytes(total, come, first, &raw[from..], p),
+        Start::Refused(t) => t,
+    }
 }
 
 // A line's text, between its marker and its 0A, is handed to the Base64 decoder as the part of the line that it is.
 fn decode_text(line: &[u8], raw: &mut [u8]) -> Decoded
-    requires { ⌜ (3 ≤ length (now line)) × (length (now line) ≤ 127) × (length (now raw) ≡ 93) ⌝ }
+    requires { ⌜ (3 ≤ length (now line)) × (length (now line) ≤ longest) × (length (now raw) ≡ rawMost) ⌝ }
     ensures { λ r. ⌜ Decodes (textOf (now (line .entry))) (now (raw .entry)) r (now (raw .exit)) ⌝ }
 {
     let end = line.len() - 1;
@@ -241,29 +291,26 @@ fn decode_text(line: &[u8], raw: &mut [u8]) -> Decoded
 
 // A frame: its text is decoded, and begins a packet or goes on with the open one.
 fn take_frame(initial: bool, reader: Reader, line: &[u8], p: &mut [u8]) -> Taken
-    requires { ⌜ (3 ≤ length (now line)) × (length (now line) ≤ 127) ⌝ }
+    requires { ⌜ (3 ≤ length (now line)) × (length (now line) ≤ longest) ⌝ }
     ensures { λ r. ⌜ outcome r (now (p .exit)) ≡ framed initial reader (decode (textOf (now (line .entry)))) (now (p .entry)) ⌝ }
 {
-    let mut raw = [0u8; 93];
+    let mut raw = [0u8; frame::RAW_MOST];
     let Decoded::Bytes(n) = decode_text(line, &mut raw) else {
         return Taken {
             answer: Answer::Refused(Refusal::BadText),
             reader: Reader::Idle,
         };
     };
-    if initial {
-        return begin_packet(&raw[..n], p);
-    }
-    resume_packet(reader, &raw[..n], p)
+    take_raw(initial, reader, &raw[..n], p)
 }
 
-// Whether a line begins with the bytes a and b.
-fn begins(line: &[u8], a: u8, b: u8) -> bool
+// Whether a line begins with a marker.
+fn begins(line: &[u8], marker: [u8; 2]) -> bool
     requires { ⌜ 2 ≤ length (now line) ⌝ }
-    ensures { λ r. ⌜ r ≡ marked a b (now (line .entry)) ⌝ }
+    ensures { λ r. ⌜ r ≡ beginsWith marker (now (line .entry)) ⌝ }
 {
-    if line[0] == a {
-        return line[1] == b;
+    if line[0] == marker[0] {
+        return line[1] == marker[1];
     }
     false
 }
@@ -274,7 +321,7 @@ pub fn take_line(reader: Reader, line: &[u8], p: &mut [u8]) -> Taken
     ensures { λ r. ⌜ outcome r (now (p .exit)) ≡ takeLine reader (now (line .entry)) (now (p .entry)) ⌝ }
 {
     let n = line.len();
-    if 127 < n {
+    if frame::LONGEST < n {
         return Taken {
             answer: Answer::Refused(Refusal::LineTooLong),
             reader,
@@ -286,20 +333,20 @@ pub fn take_line(reader: Reader, line: &[u8], p: &mut [u8]) -> Taken
             reader,
         };
     }
-    if line[n - 1] != 0x0A {
+    if line[n - 1] != frame::NEWLINE {
         return Taken {
             answer: Answer::Refused(Refusal::NoFrame),
             reader,
         };
     }
-    if begins(line, 0x06, 0x09) {
-        return take_frame(true, reader, line, p);
+    let initial = begins(line, frame::INITIAL);
+    if !initial {
+        if !begins(line, frame::PARTIAL) {
+            return Taken {
+                answer: Answer::Refused(Refusal::NoFrame),
+                reader,
+            };
+        }
     }
-    if begins(line, 0x04, 0x14) {
-        return take_frame(false, reader, line, p);
-    }
-    Taken {
-        answer: Answer::Refused(Refusal::NoFrame),
-        reader,
-    }
+    take_frame(initial, reader, line, p)
 }

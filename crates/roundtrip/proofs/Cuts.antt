@@ -11,8 +11,10 @@ use lib.Seq.{take-all, take-append-le, drop-append-le, drop-drop}
 use Rattle.laws.specs.Bytes.{be16}
 use Rattle.laws.proofs.Choice.{pick-yes, pick-no}
 use Rattle.crc.specs.Crc.{crcOf}
-use Rattle.sender.specs.Sender.{frameCount, rawOf, startOf, stopOf, pieceOf, laterCuts, cuts}
-use Rattle.roundtrip.specs.RoundTrip.{piecesFrom, CutsAgree}
+use Rattle.laws.specs.Table.{tab}
+use Rattle.frame.specs.Line.{rawMost}
+use Rattle.sender.specs.Sender.{severalFrom, bodyMost, frameCount, rawOf, startOf, stopOf, pieceOf, laterCuts, cuts}
+use Rattle.roundtrip.specs.RoundTrip.{pieces, CutsAgree}
 use Rattle.roundtrip.specs.Standing.{afterTotal}
 use Rattle.sender.proofs.Count.{count-one, count-several, count-later, count-last, start-is, start-later, stop-next, stop-last}
 use Rattle.roundtrip.proofs.Pieces.{after-length, piece-first, piece-later}
@@ -24,46 +26,49 @@ cut-short m s c = take-append-le (min m (length s)) s c (omega arith) ∙ elim (
   | no g ↦ let e : min m (length s) ≡ length s = omega arith in rw (e, take-all (length s) s (omega arith), take-all m s (omega arith))
 ]
 
--- the body's bytes left before a frame are those after 93 for each frame before it, less total's two
-left-is : (s : List ℕ) (k : ℕ) → drop (startOf (length s) k - 2) s ≡ drop (93 * k - 2) s
+-- the body's bytes left before a frame are those after a full frame for each before it, less total's two
+left-is : (s : List ℕ) (k : ℕ) → drop (startOf (length s) k - 2) s ≡ drop (rawMost * k - 2) s
 left-is s k =
     let e = start-is (length s) k in
-    elim (decLe (93 * k) (length s + 2)) [
-      | yes g ↦ let n : startOf (length s) k ≡ 93 * k = omega arith in rw n
-      | no g ↦ rw (drop-of-length-le s {i = startOf (length s) k - 2} (omega arith), drop-of-length-le s {i = 93 * k - 2} (omega arith))
+    elim (decLe (rawMost * k) (length s + 2)) [
+      | yes g ↦ let n : startOf (length s) k ≡ rawMost * k = omega arith in rw n
+      | no g ↦ rw (drop-of-length-le s {i = startOf (length s) k - 2} (omega arith), drop-of-length-le s {i = rawMost * k - 2} (omega arith))
     ]
 
--- those left before the next frame are what is left after 93 more
-left-next : (s : List ℕ) (k : ℕ) → 0 < k → drop 93 (drop (93 * k - 2) s) ≡ drop (93 * suc k - 2) s
+-- those left before the next frame are what is left after one more
+left-next : (s : List ℕ) (k : ℕ) → 0 < k → drop rawMost (drop (rawMost * k - 2) s) ≡ drop (rawMost * suc k - 2) s
 left-next s k h =
-    let e : 93 * k - 2 + 93 ≡ 93 * suc k - 2 = omega arith in
-    rw (drop-drop 93 (93 * k - 2) s, e)
+    let e : rawMost * k - 2 + rawMost ≡ rawMost * suc k - 2 = omega arith in
+    rw (drop-drop rawMost (rawMost * k - 2) s, e)
 
 -- more than 91 are left before a frame between the first and the last
-left-many : (s : List ℕ) (k : ℕ) → 0 < k → k + 1 < frameCount (length s) → 91 < length (drop (93 * k - 2) s)
+left-many : (s : List ℕ) (k : ℕ) → 0 < k → k + 1 < frameCount (length s) → bodyMost < length (drop (rawMost * k - 2) s)
 left-many s k h l = rw length-drop (omega (arith, count-later (length s) k h l))
 
 -- at most 91 are left before the last
-left-few : (s : List ℕ) (k : ℕ) → 0 < k → k + 1 ≡ frameCount (length s) → length (drop (93 * k - 2) s) ≤ 91
+left-few : (s : List ℕ) (k : ℕ) → 0 < k → k + 1 ≡ frameCount (length s) → length (drop (rawMost * k - 2) s) ≤ bodyMost
 left-few s k h e = rw length-drop (omega (arith, count-last (length s) k e))
 
 -- the first frame of several carries total and 91 bytes, or all if fewer
-cut-first : (s : List ℕ) → 1 < frameCount (length s) → pieceOf s 0 ≡ be16 (length s + 2) ++ take 91 s
+cut-first : (s : List ℕ) → 1 < frameCount (length s) → pieceOf s 0 ≡ be16 (length s + 2) ++ take bodyMost s
 cut-first s h =
-    let e : stopOf (length s) 0 - 2 ≡ min 91 (length s) = omega (arith, stop-next (length s) 0 (omega arith), start-is (length s) 1) in
-    piece-first s ∙ rw (e, cut-short 91 s (be16 (crcOf s)))
+    let e : stopOf (length s) 0 - 2 ≡ min bodyMost (length s) = omega (arith, stop-next (length s) 0 (omega arith), start-is (length s) 1) in
+    piece-first s ∙ rw (e, cut-short bodyMost s (be16 (crcOf s)))
 
 -- a frame between the first and the last carries 93 of the bytes left, or all if fewer
-cut-next : (s : List ℕ) (k : ℕ) → 0 < k → k + 1 < frameCount (length s) → pieceOf s k ≡ take 93 (drop (93 * k - 2) s)
+cut-next : (s : List ℕ) (k : ℕ) → 0 < k → k + 1 < frameCount (length s) → pieceOf s k ≡ take rawMost (drop (rawMost * k - 2) s)
 cut-next s k h l =
     let long = count-later (length s) k h l in
-    let start : startOf (length s) k ≡ 93 * k = omega (arith, start-is (length s) k) in
-    let left = length-drop (93 * k - 2) s in
-    let n : stopOf (length s) k - 93 * k ≡ min 93 (length (drop (93 * k - 2) s)) = omega (arith, stop-next (length s) k l, start-is (length s) (suc k)) in
-    piece-later s k h ∙ rw (start, n, drop-append-le (93 * k - 2) s (be16 (crcOf s)) (omega arith), cut-short 93 (drop (93 * k - 2) s) (be16 (crcOf s)))
+    let start : startOf (length s) k ≡ rawMost * k = omega (arith, start-is (length s) k) in
+    let left = length-drop (rawMost * k - 2) s in
+    let n : stopOf (length s) k - rawMost * k ≡ min rawMost (length (drop (rawMost * k - 2) s)) =
+    omega (arith, stop-next (length s) k l, start-is (length s) (suc k))
+    in
+    piece-later s k h ∙ rw
+    (start, n, drop-append-le (rawMost * k - 2) s (be16 (crcOf s)) (omega arith), cut-short rawMost (drop (rawMost * k - 2) s) (be16 (crcOf s)))
 
 -- the last frame of several carries the bytes left, and the CRC
-cut-last : (s : List ℕ) (k : ℕ) → 0 < k → k + 1 ≡ frameCount (length s) → pieceOf s k ≡ drop (93 * k - 2) s ++ be16 (crcOf s)
+cut-last : (s : List ℕ) (k : ℕ) → 0 < k → k + 1 ≡ frameCount (length s) → pieceOf s k ≡ drop (rawMost * k - 2) s ++ be16 (crcOf s)
 cut-last s k h e =
     let start = start-is (length s) k in
     let late = start-later (length s) k h in
@@ -74,48 +79,49 @@ cut-last s k h e =
     ∙ rw (left-is s k)
 
 -- the only frame carries the whole packet
-cut-only : (s : List ℕ) → length s < 89 → pieceOf s 0 ≡ rawOf s
+cut-only : (s : List ℕ) → length s < severalFrom → pieceOf s 0 ≡ rawOf s
 unfolding rawOf
 cut-only s h =
     let stop = stop-last (length s) 0 (omega (arith, count-one (length s) h)) in
     piece-first s ∙ rw (take-all (stopOf (length s) 0 - 2) (afterTotal s) (rw after-length (omega arith)))
 
 -- where at most 91 bytes are left the paper has one frame more
-later-last : (n : ℕ) (left crc : List ℕ) → length left ≤ 91 → laterCuts n left crc ≡ (left ++ crc) ∷ []
+later-last : (n : ℕ) (left crc : List ℕ) → length left ≤ bodyMost → laterCuts n left crc ≡ (left ++ crc) ∷ []
 unfolding laterCuts
 later-last zero left crc h = refl
-later-last (suc n) left crc h = rw (le-ltb 91 (length left) h, pick-no)
+later-last (suc n) left crc h = rw (le-ltb bodyMost (length left) h, pick-no)
 
 -- the frames from number k on are the paper's
-later : (s : List ℕ) (n k fuel : ℕ) → 0 < k → k + suc n ≡ frameCount (length s) → length (drop (93 * k - 2) s) ≤ fuel
-    → piecesFrom s k (suc n) ≡ laterCuts fuel (drop (93 * k - 2) s) (be16 (crcOf s))
-unfolding piecesFrom laterCuts
+later : (s : List ℕ) (n k fuel : ℕ) → 0 < k → k + suc n ≡ frameCount (length s) → length (drop (rawMost * k - 2) s) ≤ fuel
+    → tab (pieceOf s) k (suc n) ≡ laterCuts fuel (drop (rawMost * k - 2) s) (be16 (crcOf s))
+unfolding tab laterCuts
 later s zero k fuel h e f =
     let last : k + 1 ≡ frameCount (length s) = omega arith in
-    rw (cut-last s k h last, later-last fuel (drop (93 * k - 2) s) (be16 (crcOf s)) (left-few s k h last))
+    rw (cut-last s k h last, later-last fuel (drop (rawMost * k - 2) s) (be16 (crcOf s)) (left-few s k h last))
 later s (suc n) k zero h e f = absurd (omega (arith, left-many s k h (omega arith)))
 later s (suc n) k (suc fuel) h e f =
     let next : k + 1 < frameCount (length s) = omega arith in
     let many = left-many s k h next in
     let rest = left-next s k h in
-    let fewer : length (drop (93 * suc k - 2) s) ≤ fuel = rw (← rest, length-drop 93 (drop (93 * k - 2) s)) (omega arith) in
-    rw (lt-ltb 91 (length (drop (93 * k - 2) s)) many, pick-yes, cut-next s k h next, rest, later s n (suc k) fuel (omega arith) (omega arith) fewer)
+    let fewer : length (drop (rawMost * suc k - 2) s) ≤ fuel = rw (← rest, length-drop rawMost (drop (rawMost * k - 2) s)) (omega arith) in
+    rw (lt-ltb bodyMost (length (drop (rawMost * k - 2) s)) many, pick-yes, cut-next s k h next, rest, later s n (suc k) fuel (omega arith) (omega arith) fewer)
 
 -- the frames of a body in one frame are the paper's
-one : (s : List ℕ) → length s < 89 → piecesFrom s 0 (frameCount (length s)) ≡ cuts s
-unfolding piecesFrom cuts
-one s h = rw (count-one (length s) h, cut-only s h, lt-ltb (length s) 89 h, pick-yes)
+one : (s : List ℕ) → length s < severalFrom → pieces s ≡ cuts s
+unfolding pieces tab cuts
+one s h = rw (count-one (length s) h, cut-only s h, lt-ltb (length s) severalFrom h, pick-yes)
 
 -- the frames of a body in several are the paper's
-several : (s : List ℕ) (n : ℕ) → 89 ≤ length s → suc (suc n) ≡ frameCount (length s) → piecesFrom s 0 (suc (suc n)) ≡ cuts s
-unfolding piecesFrom cuts
+several : (s : List ℕ) (n : ℕ) → severalFrom ≤ length s → suc (suc n) ≡ frameCount (length s) → tab (pieceOf s) 0 (suc (suc n)) ≡ cuts s
+unfolding tab cuts
 several s n h e =
-    let enough : length (drop 91 s) ≤ length s = rw length-drop (omega arith) in
-    rw (le-ltb (length s) 89 h, pick-no, cut-first s (omega arith), later s n 1 (length s) (omega arith) (omega arith) enough)
+    let enough : length (drop bodyMost s) ≤ length s = rw length-drop (omega arith) in
+    rw (le-ltb (length s) severalFrom h, pick-no, cut-first s (omega arith), later s n 1 (length s) (omega arith) (omega arith) enough)
 
 -- the sender's formula cuts as the paper says
 pub cuts-agree : CutsAgree
-cuts-agree s h l = elim (decLe 89 (length s)) [
+unfolding pieces
+cuts-agree s h l = elim (decLe severalFrom (length s)) [
   | no g ↦ one s (omega arith)
   | yes g ↦
       let e : suc (suc (frameCount (length s) - 2)) ≡ frameCount (length s) = omega (arith, count-several (length s) g) in

@@ -1,4 +1,3 @@
-pub mod Noise
 pub mod Lines
 pub mod Step
 pub mod Pieces

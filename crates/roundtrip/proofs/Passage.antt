@@ -8,6 +8,7 @@ use borrow.Author.Tests.{ne-eqb}
 use lib.ListN.{length, take, drop, replicate, length-take}
 use lib.Seq.{take-all, take-at, drop-at}
 use Rattle.laws.specs.Bytes.{Bytes, pasted, be16, ofBe16}
+use Rattle.laws.specs.Table.{tab}
 use Rattle.laws.proofs.Choice.{pick-yes, pick-no}
 use Rattle.laws.proofs.Lists.{be16-back}
 use Rattle.crc.specs.Crc.{crcOf}
@@ -16,12 +17,14 @@ use Rattle.reader.specs.declared.Reader.{Reader}
 use Rattle.reader.specs.declared.Reader.the-variants.{Idle}
 use Rattle.reader.specs.Reader.{Said, more, body, begin, takeLine}
 use Rattle.sender.specs.Sender.{frameCount, startOf, stopOf, pieceOf, frameOf}
-use Rattle.roundtrip.specs.RoundTrip.{framesFrom, frames, saying, feed, hearing, heard, RoundTrip}
+use Rattle.reader.specs.Lines.{saying, feed, hearing, heard}
+use Rattle.roundtrip.specs.RoundTrip.{frames, RoundTrip}
 use Rattle.roundtrip.specs.Standing.{afterTotal, standing, holding, whole}
-use Rattle.roundtrip.proofs.Noise.{without-noise}
+use Rattle.reader.proofs.Lines.{without-noise}
 use Rattle.roundtrip.proofs.Step.{holding-none, holding-length, initial-step, partial-step, whole-more, whole-body}
+use Rattle.sender.proofs.Laws.{piece-length}
 use Rattle.sender.proofs.Count.{count-some, start-is, start-first, stop-next, stop-last}
-use Rattle.roundtrip.proofs.Pieces.{after-length, piece-first, piece-joined, piece-length, piece-bytes}
+use Rattle.roundtrip.proofs.Pieces.{after-length, piece-first, piece-joined, piece-some, piece-bytes}
 use Rattle.roundtrip.proofs.Lines.{initial-taken, partial-taken}
 
 -- all that our sender's frames draw is heard
@@ -70,9 +73,9 @@ module _ (s q : List ℕ) (bytes : Bytes s) (low : 8 ≤ length s) (high : lengt
   first-taken : (r : Reader) → takeLine r (frameOf s 0) q ≡ whole (length s + 2) (through s 0) q q
   unfolding frameOf
   first-taken r =
-      let size = piece-length s 0 (count-some (length s)) in
+      let least = count-some (length s) in
       rw pick-yes
-      (initial-taken r (pieceOf s 0) q (piece-bytes s 0 bytes) (size .0) (size .1)
+      (initial-taken r (pieceOf s 0) q (piece-bytes s 0 bytes) (piece-some s 0 least) (piece-length s 0 least)
       ∙ rw (piece-first s) (begins (length s + 2) (through s 0) q (omega arith) (omega arith)))
 
   -- a later frame is taken
@@ -81,9 +84,8 @@ module _ (s q : List ℕ) (bytes : Bytes s) (low : 8 ≤ length s) (high : lengt
       ≡ whole (length s + 2) (through s k) q (held s k q)
   unfolding frameOf
   later-taken k h l =
-      let size = piece-length s k l in
       rw (ne-eqb k 0 (λ e. omega arith), pick-no)
-      (partial-taken (opened s k) (pieceOf s k) (held s k q) (piece-bytes s k bytes) (size .0) (size .1)
+      (partial-taken (opened s k) (pieceOf s k) (held s k q) (piece-bytes s k bytes) (piece-some s k l) (piece-length s k l)
       ∙ partial-step (length s + 2) (before s k) (pieceOf s k) q (omega arith) (omega arith) (before-less k) (before-room k)
       ∙ rw (piece-joined s k h l))
 
@@ -134,16 +136,17 @@ module _ (s q : List ℕ) (bytes : Bytes s) (low : 8 ≤ length s) (high : lengt
 
   -- the answers to the frames from number k on, with no noise
   run : (m k : ℕ) (r : Reader) → k + suc m ≡ frameCount (length s) → (0 < k → r ≡ opened s k)
-      → feed (framesFrom s k (suc m)) r (held s k q)
+      → feed (tab (frameOf s) k (suc m)) r (held s k q)
       ≡ record { says = replicate m more ++ (body (length s) ∷ []); reader = Idle; buffer = pasted q 0 s }
-  unfolding feed saying framesFrom
+  unfolding feed saying tab
   run zero k r e f = rw (last-taken k r e f)
   run (suc m) k r e f =
       rw (next-taken k r (omega arith) f)
       (ap (saying more) (run m (suc k) (opened s (suc k)) (omega arith) (λ h. refl)))
 
   -- the answers to all frames, with no noise
-  run-all : (r : Reader) → feed (frames s) r q ≡ record { says = replicate (frameCount (length s) - 1) more ++ (body (length s) ∷ []); reader = Idle; buffer = pasted q 0 s }
+  run-all : (r : Reader)
+      → feed (frames s) r q ≡ record { says = replicate (frameCount (length s) - 1) more ++ (body (length s) ∷ []); reader = Idle; buffer = pasted q 0 s }
   unfolding frames
   run-all r =
       let e : suc (frameCount (length s) - 1) ≡ frameCount (length s) = omega (arith, count-some (length s)) in

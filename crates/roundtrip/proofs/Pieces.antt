@@ -1,7 +1,7 @@
 -- The raw bytes of each frame as parts of what follows total: frame 0 carries total and a first part, each later frame the next part.
 -- Assumes nothing.
 use mathlib.Core.Path.{_≡_, sym}
-use Prim.Native.Nat.{ℕ, _+_, _-_, _≤_, _<_}
+use Prim.Native.Nat.{ℕ, _+_, _-_, _<_}
 use native.Mathlib.Nat.{sub-zero}
 use native.Mathlib.Omega.{arith}
 use mathlib.Core.List.{List, _++_}
@@ -20,7 +20,7 @@ unfolding be16
 after-length s = length-append s (be16 (crcOf s))
 
 -- a packet has four bytes more than its body
-pub raw-length : (s : List ℕ) → length (rawOf s) ≡ length s + 4
+raw-length : (s : List ℕ) → length (rawOf s) ≡ length s + 4
 unfolding be16 rawOf
 raw-length s = simp length-append (omega arith)
 
@@ -32,7 +32,8 @@ piece-first s =
     (take-past (be16 (length s + 2)) (afterTotal s) (stopOf (length s) 0) (piece-size (length s) 0 (count-some (length s)) .2))
 
 -- a later frame's raw bytes: the part from its start to its end
-pub piece-later : (s : List ℕ) (k : ℕ) → 0 < k → pieceOf s k ≡ take (stopOf (length s) k - startOf (length s) k) (drop (startOf (length s) k - 2) (afterTotal s))
+pub piece-later : (s : List ℕ) (k : ℕ) → 0 < k
+    → pieceOf s k ≡ take (stopOf (length s) k - startOf (length s) k) (drop (startOf (length s) k - 2) (afterTotal s))
 unfolding pieceOf rawOf be16
 piece-later s k h = rw (drop-past (be16 (length s + 2)) (afterTotal s) (startOf (length s) k) (start-later (length s) k h))
 
@@ -45,10 +46,10 @@ piece-joined s k h l =
     let e : startOf (length s) k - 2 + (stopOf (length s) k - startOf (length s) k) ≡ stopOf (length s) k - 2 = omega arith in
     rw (piece-later s k h, ← e) (sym (take-add (startOf (length s) k - 2) (stopOf (length s) k - startOf (length s) k) (afterTotal s)))
 
--- a frame carries 1 to 93 raw bytes
-pub piece-length : (s : List ℕ) (k : ℕ) → k < frameCount (length s) → (0 < length (pieceOf s k)) × (length (pieceOf s k) ≤ 93)
+-- a frame carries a raw byte at least
+pub piece-some : (s : List ℕ) (k : ℕ) → k < frameCount (length s) → 0 < length (pieceOf s k)
 unfolding pieceOf
-piece-length s k l =
+piece-some s k l =
     let size = piece-size (length s) k l in
     simp (length-take, length-drop, raw-length) (omega arith)
 

@@ -6,13 +6,12 @@ use Prim.Native.Nat.{ℕ, suc, _+_, _-_, _≤_, _<_}
 use native.Mathlib.Nat.{zero-add, add-zero}
 use native.Mathlib.Omega.{arith}
 use native.Mathlib.Decide.{decLe}
-use mathlib.Core.Bool.{Bool, true, false}
 use mathlib.Core.List.{List, [], _++_}
 use borrow.Author.Tests.{ltb-false, lt-ltb, le-ltb, le-leb, lt-leb, eq-eqb, ne-eqb}
 use lib.Dec.{ltb}
 use lib.ListN.{length, take, drop, length-append, length-take, drop-of-length-le}
 use lib.Seq.{take-all, take-nil, take-at, take-append-le, drop-append-le, drop-cons, getD-drop}
-use Rattle.laws.specs.Choice.{pick, both}
+use Rattle.laws.specs.Choice.{both}
 use Rattle.laws.specs.Bytes.{ofBe16}
 use Rattle.laws.proofs.Choice.{pick-yes, pick-no, pick-arms}
 use Rattle.laws.proofs.Lists.{pasted-none, pasted-start, pasted-length, pasted-twice, take-past, drop-past}
@@ -22,7 +21,7 @@ use Rattle.reader.specs.Reader.{more, body, bodyOf, crcBytes, filled, waiting, 
 use Rattle.roundtrip.specs.Standing.{firstOf, standing, holding, closed, whole}
 
 -- the CRC bytes that have come are what follows the body in u and x joined
-pub crc-bytes : (total : ℕ) (u x : List ℕ) → 2 ≤ total → length u < total
+crc-bytes : (total : ℕ) (u x : List ℕ) → 2 ≤ total → length u < total
     → crcBytes total (length u) (firstOf total u) x ≡ drop (total - 2) (u ++ x)
 unfolding crcBytes firstOf
 crc-bytes total u x h l = elim (decLe (length u) (total - 2)) [
@@ -30,11 +29,19 @@ crc-bytes total u x h l = elim (decLe (length u) (total - 2)) [
   | no g ↦
       let e : length u + 1 ≡ total = omega arith in
       let f : total - 2 < length u = omega arith in
-      rw (lt-leb (length u) (total - 2) f, pick-no, eq-eqb (length u + 1) total e, pick-yes, drop-append-le (total - 2) u x (omega arith), drop-cons u (total - 2) 0 f, drop-of-length-le u {i = suc (total - 2)} (omega arith))
+      rw (
+        lt-leb (length u) (total - 2) f,
+        pick-no,
+        eq-eqb (length u + 1) total e,
+        pick-yes,
+        drop-append-le (total - 2) u x (omega arith),
+        drop-cons u (total - 2) 0 f,
+        drop-of-length-le u {i = suc (total - 2)} (omega arith),
+      )
 ]
 
 -- the buffer with this frame's bytes in holds u and x joined
-pub filled-holds : (total : ℕ) (u x q : List ℕ) → length (take (total - 2) u) ≤ length q
+filled-holds : (total : ℕ) (u x q : List ℕ) → length (take (total - 2) u) ≤ length q
     → filled total (length u) x (holding total u q) ≡ holding total (u ++ x) q
 unfolding filled holding bodyOf
 filled-holds total u x q h = elim (decLe (length u) (total - 2)) [
@@ -48,7 +55,7 @@ filled-holds total u x q h = elim (decLe (length u) (total - 2)) [
 ]
 
 -- a buffer that holds a whole body begins with it
-pub holding-start : (total : ℕ) (u q : List ℕ) → total - 2 ≤ length u → take (total - 2) (holding total u q) ≡ take (total - 2) u
+holding-start : (total : ℕ) (u q : List ℕ) → total - 2 ≤ length u → take (total - 2) (holding total u q) ≡ take (total - 2) u
 unfolding holding
 holding-start total u q h =
     rw pasted-start (take-at (take (total - 2) u) (drop (length (take (total - 2) u)) q) (total - 2) (rw length-take (omega arith)))
@@ -64,7 +71,7 @@ unfolding holding
 holding-none total q = rw (take-nil {A = ℕ} (total - 2)) (pasted-none q 0)
 
 -- where nothing has come the record's last field is 0
-pub first-none : (total : ℕ) → 2 ≤ total → firstOf total [] ≡ 0
+first-none : (total : ℕ) → 2 ≤ total → firstOf total [] ≡ 0
 unfolding firstOf
 first-none total h = rw (ne-eqb 1 total (λ e. omega arith), pick-no)
 

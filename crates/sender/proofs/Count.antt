@@ -7,28 +7,31 @@ use native.Mathlib.Omega.{arith}
 use native.Mathlib.Decide.{decLe}
 use borrow.Author.Tests.{lt-ltb, le-ltb, le-leb, lt-leb, eq-eqb, ne-eqb}
 use Rattle.laws.proofs.Choice.{pick-yes, pick-no}
-use Rattle.sender.specs.Sender.{frameCount, startOf, stopOf}
+use Rattle.frame.specs.Line.{rawMost}
+use Rattle.sender.specs.Sender.{severalFrom, twoFrames, frameCount, startOf, stopOf}
 
--- a body of fewer than 89 bytes takes one frame
-pub count-one : (b : ℕ) → b < 89 → frameCount b ≡ 1
+-- a short body takes one frame
+pub count-one : (b : ℕ) → b < severalFrom → frameCount b ≡ 1
 unfolding frameCount
-count-one b h = rw (lt-ltb b 89 h, pick-yes)
+count-one b h = rw (lt-ltb b severalFrom h, pick-yes)
 
--- a body of 89 to 182 bytes takes two
-pub count-two : (b : ℕ) → 89 ≤ b → b ≤ 182 → frameCount b ≡ 2
+-- a longer one takes two, up to the longest in two
+pub count-two : (b : ℕ) → severalFrom ≤ b → b ≤ twoFrames → frameCount b ≡ 2
 unfolding frameCount
-count-two b h l = rw (le-ltb b 89 h, pick-no, le-leb b 182 l, pick-yes)
+count-two b h l = rw (le-ltb b severalFrom h, pick-no, le-leb b twoFrames l, pick-yes)
 
--- a longer body takes one more for each further 93 bytes
-pub count-many : (b : ℕ) → 182 < b → frameCount b ≡ 2 + (b - 182 + 92) / 93
+-- and then one more for each further full frame, begun or not
+pub count-many : (b : ℕ) → twoFrames < b → frameCount b ≡ 2 + (b - twoFrames + (rawMost - 1)) / rawMost
 unfolding frameCount
-count-many b h = rw (le-ltb b 89 (omega arith), pick-no, lt-leb b 182 h, pick-no)
+count-many b h = rw (le-ltb b severalFrom (omega arith), pick-no, lt-leb b twoFrames h, pick-no)
 
 -- a fact of the count is shown in those three cases
-by-count : (P : ℕ → Type 0) (b : ℕ) → (b < 89 → P 1) → (89 ≤ b → b ≤ 182 → P 2) → (182 < b → P (2 + (b - 182 + 92) / 93)) → P (frameCount b)
-by-count P b f g h = elim (decLe 89 b) [
+by-count : (P : ℕ → Type 0) (b : ℕ) → (b < severalFrom → P 1) → (severalFrom ≤ b → b ≤ twoFrames → P 2)
+    → (twoFrames < b → P (2 + (b - twoFrames + (rawMost - 1)) / rawMost))
+    → P (frameCount b)
+by-count P b f g h = elim (decLe severalFrom b) [
   | no n ↦ rw (count-one b (omega arith)) (f (omega arith))
-  | yes l ↦ elim (decLe b 182) [
+  | yes l ↦ elim (decLe b twoFrames) [
     | yes r ↦ rw (count-two b l r) (g l r)
     | no n ↦ rw (count-many b (omega arith)) (h (omega arith))
   ]
@@ -38,24 +41,24 @@ by-count P b f g h = elim (decLe 89 b) [
 pub count-some : (b : ℕ) → 0 < frameCount b
 count-some b = by-count (λ (n : ℕ). 0 < n) b (λ h. omega arith) (λ h l. omega arith) (λ h. omega arith)
 
--- a body of 89 bytes or more takes several
-pub count-several : (b : ℕ) → 89 ≤ b → 1 < frameCount b
+-- a body that is not short takes several
+pub count-several : (b : ℕ) → severalFrom ≤ b → 1 < frameCount b
 count-several b l = by-count (λ (n : ℕ). 1 < n) b (λ h. omega arith) (λ h l. omega arith) (λ h. omega arith)
 
--- a frame that another follows: the body has at least 89 bytes for it besides 93 for each frame before
-pub count-next : (b k : ℕ) → k + 1 < frameCount b → 93 * k + 89 ≤ b
-count-next b k = by-count (λ (n : ℕ). k + 1 < n → 93 * k + 89 ≤ b) b (λ h e. omega arith) (λ h l e. omega arith) (λ h e. omega arith)
+-- a frame that another follows: the body has what would fit it beside total and CRC, besides a full frame for each before, or more
+count-next : (b k : ℕ) → k + 1 < frameCount b → rawMost * k + (rawMost - 4) ≤ b
+count-next b k = by-count (λ (n : ℕ). k + 1 < n → rawMost * k + (rawMost - 4) ≤ b) b (λ h e. omega arith) (λ h l e. omega arith) (λ h e. omega arith)
 
 -- a frame that another follows, and that is not the first: the body has more than that
-pub count-later : (b k : ℕ) → 0 < k → k + 1 < frameCount b → 93 * k + 89 < b
-count-later b k p = by-count (λ (n : ℕ). k + 1 < n → 93 * k + 89 < b) b (λ h e. omega arith) (λ h l e. omega arith) (λ h e. omega arith)
+pub count-later : (b k : ℕ) → 0 < k → k + 1 < frameCount b → rawMost * k + (rawMost - 4) < b
+count-later b k p = by-count (λ (n : ℕ). k + 1 < n → rawMost * k + (rawMost - 4) < b) b (λ h e. omega arith) (λ h l e. omega arith) (λ h e. omega arith)
 
 -- the last frame: the body has at most that
-pub count-last : (b k : ℕ) → k + 1 ≡ frameCount b → b ≤ 93 * k + 89
-count-last b k = by-count (λ (n : ℕ). k + 1 ≡ n → b ≤ 93 * k + 89) b (λ h e. omega arith) (λ h l e. omega arith) (λ h e. omega arith)
+pub count-last : (b k : ℕ) → k + 1 ≡ frameCount b → b ≤ rawMost * k + (rawMost - 4)
+count-last b k = by-count (λ (n : ℕ). k + 1 ≡ n → b ≤ rawMost * k + (rawMost - 4)) b (λ h e. omega arith) (λ h l e. omega arith) (λ h e. omega arith)
 
 -- where a frame begins
-pub start-is : (b k : ℕ) → startOf b k ≡ min (93 * k) (b + 2)
+pub start-is : (b k : ℕ) → startOf b k ≡ min (rawMost * k) (b + 2)
 unfolding startOf
 start-is b k = refl
 
@@ -81,8 +84,8 @@ start-first b = omega (arith, start-is b 0)
 pub start-later : (b k : ℕ) → 0 < k → 2 ≤ startOf b k
 start-later b k h = omega (arith, start-is b k)
 
--- a frame ends after it begins, 93 bytes on at most, after total and within the packet
-pub piece-size : (b k : ℕ) → k < frameCount b → (startOf b k < stopOf b k) × (stopOf b k ≤ startOf b k + 93) × (2 ≤ stopOf b k) × (stopOf b k ≤ b + 4)
+-- a frame ends after it begins, a full frame on at most, after total and within the packet
+pub piece-size : (b k : ℕ) → k < frameCount b → (startOf b k < stopOf b k) × (stopOf b k ≤ startOf b k + rawMost) × (2 ≤ stopOf b k) × (stopOf b k ≤ b + 4)
 piece-size b k h = elim (decLe (frameCount b) (k + 1)) [
   | yes g ↦
       let e : k + 1 ≡ frameCount b = omega arith in

@@ -17,10 +17,10 @@ use Rattle.laws.proofs.Lists.{take-past, drop-past, pasted-twice, pasted-length
 use Rattle.crc.specs.Crc.{crcOf}
 use Rattle.base64.specs.Base64.{encode}
 use Rattle.base64.proofs.Laws.{encode-length}
-use Rattle.frame.specs.Line.{initial, partial, frame}
-use Rattle.sender.specs.Sender.{frameCount, rawOf, startOf, stopOf, pieceOf, frameOf, sendable, frameIs, refused, sendFrame}
+use Rattle.frame.specs.Line.{longest, longestText, newline, rawMost, initial, partial, frame}
+use Rattle.sender.specs.Sender.{frameCount, rawOf, startOf, stopOf, pieceOf, markerOf, frameOf, sendable, frameIs, refused, sendFrame}
 use Rattle.sender.proofs.Count.{stop-last, stop-other, start-is, start-first, piece-size}
-use Rattle.sender.specs.Piece.{headOf, fromOf, toOf, middleOf, tailOf, markerOf}
+use Rattle.sender.specs.Inner.{headOf, fromOf, toOf, middleOf, tailOf}
 
 -- the three parts at each way of their tests
 pub head-first : (b k : ℕ) → k ≡ 0 → headOf b k ≡ be16 (b + 2)
@@ -74,7 +74,8 @@ cut-inner s t from to h k =
     ∙ sym (append-nil (take (to - from) (drop from s)))
 
 -- after total, frame k's raw bytes are its run of the body and, in the last frame, the CRC
-pub piece-rest : (s : List ℕ) (k : ℕ) → take (stopOf (length s) k - 2 - fromOf (length s) k) (drop (fromOf (length s) k) (s ++ be16 (crcOf s))) ≡ middleOf s k ++ tailOf s k
+piece-rest : (s : List ℕ) (k : ℕ)
+    → take (stopOf (length s) k - 2 - fromOf (length s) k) (drop (fromOf (length s) k) (s ++ be16 (crcOf s))) ≡ middleOf s k ++ tailOf s k
 unfolding startOf middleOf
 piece-rest s k =
     elim (ℕ-discrete (k + 1) (frameCount (length s))) [
@@ -111,7 +112,8 @@ first-sizes b t =
     let size : stopOf b 0 - 0 - length (be16 (b + 2)) ≡ stopOf b 0 - 2 - fromOf b 0 = rw (be16-length (b + 2)) (omega arith) in
     ap₂ (λ (n m : ℕ). take n (drop m t)) size (sym begins)
 
-later-sizes : (b k : ℕ) (t : List ℕ) → (k ≡ 0 → ⊥) → take (stopOf b k - startOf b k) (drop (startOf b k) (be16 (b + 2) ++ t)) ≡ take (stopOf b k - 2 - fromOf b k) (drop (fromOf b k) t)
+later-sizes : (b k : ℕ) (t : List ℕ) → (k ≡ 0 → ⊥)
+    → take (stopOf b k - startOf b k) (drop (startOf b k) (be16 (b + 2) ++ t)) ≡ take (stopOf b k - 2 - fromOf b k) (drop (fromOf b k) t)
 unfolding startOf
 later-sizes b k t h =
     let low : 2 ≤ startOf b k = omega arith in
@@ -120,7 +122,7 @@ later-sizes b k t h =
     (drop-past (be16 (b + 2)) t (startOf b k) (rw (be16-length (b + 2)) low) ∙ ap (λ (n : ℕ). drop (startOf b k - n) t) (be16-length (b + 2)))
 
 -- a frame's raw bytes in three parts
-pub piece-parts : (s : List ℕ) (k : ℕ) → pieceOf s k ≡ headOf (length s) k ++ (middleOf s k ++ tailOf s k)
+piece-parts : (s : List ℕ) (k : ℕ) → pieceOf s k ≡ headOf (length s) k ++ (middleOf s k ++ tailOf s k)
 unfolding pieceOf rawOf
 piece-parts s zero =
     let b = length s in
@@ -137,8 +139,8 @@ piece-parts s (suc k) =
     ∙ piece-rest s (suc k)
     ∙ ap (λ (l : List ℕ). l ++ (middleOf s (suc k) ++ tailOf s (suc k))) (sym (head-later (length s) (suc k) (suc-ne-zero k)))
 
--- a frame's raw bytes are 93 at most
-pub piece-length : (s : List ℕ) (k : ℕ) → k < frameCount (length s) → length (pieceOf s k) ≤ 93
+-- a frame's raw bytes are at most those of a full one
+pub piece-length : (s : List ℕ) (k : ℕ) → k < frameCount (length s) → length (pieceOf s k) ≤ rawMost
 unfolding pieceOf
 piece-length s k l = simp length-take (omega (arith, piece-size (length s) k l .1))
 
@@ -175,14 +177,14 @@ marker-first k h = simp (eq-eqb _ _ h, pick-yes)
 pub marker-later : (k : ℕ) → (k ≡ 0 → ⊥) → markerOf k ≡ partial
 marker-later k h = simp (ne-eqb _ _ h, pick-no)
 
-pub marker-length : (k : ℕ) → length (markerOf k) ≡ 2
+marker-length : (k : ℕ) → length (markerOf k) ≡ 2
 marker-length k = pick-case (λ (m : List ℕ). length m ≡ 2) (eqb k 0) initial partial (λ e. refl) (λ e. refl)
 
 -- marker, text and 0A one after the other are the frame's line
 pub line-parts : (k : ℕ) (raw m m₁ m₂ : List ℕ) (n : ℕ) → length (encode raw) + 3 ≤ length m → m₁ ≡ pasted m 0 (markerOf k)
     → n ≡ length (encode raw)
     → m₂ ≡ pasted m₁ 2 (encode raw)
-    → (2 + n + 1 ≡ length (frame (markerOf k) raw)) × (set m₂ (2 + n) 0x0A ≡ pasted m 0 (frame (markerOf k) raw)) × (length m₂ ≡ length m)
+    → (2 + n + 1 ≡ length (frame (markerOf k) raw)) × (set m₂ (2 + n) newline ≡ pasted m 0 (frame (markerOf k) raw)) × (length m₂ ≡ length m)
 unfolding frame
 line-parts k raw m m₁ m₂ n room p₁ e p₂ =
     let a = markerOf k in
@@ -191,24 +193,25 @@ line-parts k raw m m₁ m₂ n room p₁ e p₂ =
     let ahead : length (a ++ t) ≡ 2 + n = rw (length-append a t) (omega arith) in
     let both : m₂ ≡ pasted m 0 (a ++ t) = p₂ ∙ ap₂ (λ (l : List ℕ) (i : ℕ). pasted l i t) p₁ (omega arith) ∙ pasted-twice m 0 a t (omega arith) in
     let size : length m₂ ≡ length m = ap length both ∙ pasted-length m 0 (a ++ t) (omega arith) in (
-      rw (length-append a (t ++ (0x0A ∷ [])), length-append t (0x0A ∷ [])) (omega arith),
-      set-pasted m₂ (2 + n) 0x0A (omega arith)
-          ∙ ap₂ (λ (l : List ℕ) (i : ℕ). pasted l i (0x0A ∷ [])) both (omega arith)
-          ∙ pasted-twice m 0 (a ++ t) (0x0A ∷ []) (omega arith)
-          ∙ ap (λ (l : List ℕ). pasted m 0 l) (append-assoc a t (0x0A ∷ [])),
+      rw (length-append a (t ++ (newline ∷ [])), length-append t (newline ∷ [])) (omega arith),
+      set-pasted m₂ (2 + n) newline (omega arith)
+          ∙ ap₂ (λ (l : List ℕ) (i : ℕ). pasted l i (newline ∷ [])) both (omega arith)
+          ∙ pasted-twice m 0 (a ++ t) (newline ∷ []) (omega arith)
+          ∙ ap (λ (l : List ℕ). pasted m 0 l) (append-assoc a t (newline ∷ [])),
       size,
     )
 
--- the text of 93 raw bytes has 124 characters
-pub text-room : (raw : List ℕ) → length raw ≤ 93 → length (encode raw) ≤ 124
+-- the text of a full frame is the longest
+pub text-room : (raw : List ℕ) → length raw ≤ rawMost → length (encode raw) ≤ longestText
 text-room raw h = omega (arith, encode-length raw)
 
 -- the sender's refusals, and a frame that it sends
-pub send-unsendable : (s : List ℕ) (k : ℕ) (out : List ℕ) → sendable (length s) (length out) ≡ false → sendFrame s k out ≡ record { says = refused 12; buffer = out }
+pub send-unsendable : (s : List ℕ) (k : ℕ) (out : List ℕ) → sendable (length s) (length out) ≡ false
+    → sendFrame s k out ≡ record { says = refused 12; buffer = out }
 unfolding sendFrame
 send-unsendable s k out h = simp (h, pick-yes)
 
-pub sendable-small : (b room : ℕ) → room < 127 → sendable b room ≡ false
+pub sendable-small : (b room : ℕ) → room < longest → sendable b room ≡ false
 unfolding sendable
 sendable-small b room h = simp (lt-leb _ _ h, both-no)
 
@@ -220,11 +223,12 @@ pub sendable-long : (b room : ℕ) → 65533 < b → sendable b room ≡ false
 unfolding sendable
 sendable-long b room h = simp (lt-leb _ _ h, both-last-no)
 
-pub sendable-is : (b room : ℕ) → 127 ≤ room → 8 ≤ b → b ≤ 65533 → sendable b room ≡ true
+pub sendable-is : (b room : ℕ) → longest ≤ room → 8 ≤ b → b ≤ 65533 → sendable b room ≡ true
 unfolding sendable
 sendable-is b room h k l = simp (le-leb _ _ h, le-leb _ _ k, le-leb _ _ l, both-yes)
 
-pub send-beyond : (s : List ℕ) (k : ℕ) (out : List ℕ) → sendable (length s) (length out) ≡ true → frameCount (length s) ≤ k → sendFrame s k out ≡ record { says = refused 13; buffer = out }
+pub send-beyond : (s : List ℕ) (k : ℕ) (out : List ℕ) → sendable (length s) (length out) ≡ true → frameCount (length s) ≤ k
+    → sendFrame s k out ≡ record { says = refused 13; buffer = out }
 unfolding sendFrame
 send-beyond s k out h l = simp (h, pick-no, le-ltb _ _ l, pick-yes)
 

@@ -1,2 +1,2 @@
 pub mod Sender
-pub mod Piece
+pub mod Inner

@@ -1,14 +1,13 @@
 // The frame sender: frame number k of a body, as a line at the start of a lent buffer.
 use refusal::Refusal;
 ghost use mathlib.Core.Path.{_≡_};
-ghost use mathlib.Core.List.{List};
-ghost use Prim.Native.Nat.{ℕ, _+_, _-_, _≤_, _<_};
+ghost use Prim.Native.Nat.{_+_, _-_, _≤_, _<_};
 ghost use lib.ListN.{length};
 ghost use Rattle.laws.specs.Bytes.{pasted};
-ghost use Rattle.sender.specs.Sender.{frameCount, startOf, stopOf, pieceOf, frameOf, outcome, sendFrame};
 ghost use Rattle.base64.specs.Base64.{encode};
-ghost use Rattle.frame.specs.Line.{frame};
-ghost use Rattle.sender.specs.Piece.{headOf, toOf, fromOf, middleOf, tailOf, markerOf};
+ghost use Rattle.frame.specs.Line.{longest, longestText, rawMost, frame};
+ghost use Rattle.sender.specs.Sender.{frameCount, startOf, pieceOf, markerOf, frameOf, outcome, sendFrame};
+ghost use Rattle.sender.specs.Inner.{headOf, toOf, fromOf, middleOf, tailOf};
 
 // What the sender says to a body and a frame number.
 pub enum Sent {
@@ -19,20 +18,23 @@ pub enum Sent {
 }
 
 // A body of this many bytes or more takes more than one frame.
-const ONE_FRAME_LIMIT: usize = 89;
+const SEVERAL_FROM: usize = 89;
+
+// The longest body in two frames, one with total and one with the CRC.
+const TWO_FRAMES: usize = 2 * (frame::RAW_MOST - 2);
 
 // How many frames a body of b bytes takes.
 fn frame_count(b: usize) -> usize
     requires { ⌜ b ≤ 65533 ⌝ }
     ensures { λ r. ⌜ (r ≡ frameCount b) × (r ≤ 705) ⌝ }
 {
-    if b < ONE_FRAME_LIMIT {
+    if b < SEVERAL_FROM {
         return 1;
     }
-    if b <= 182 {
+    if b <= TWO_FRAMES {
         return 2;
     }
-    2 + (b - 182 + 92) / 93
+    2 + (b - TWO_FRAMES + (frame::RAW_MOST - 1)) / frame::RAW_MOST
 }
 
 // Where frame k's raw bytes begin among those of a body of b bytes.
@@ -40,7 +42,7 @@ fn start_of(b: usize, k: usize) -> usize
     requires { ⌜ (b ≤ 65533) × (k ≤ 705) ⌝ }
     ensures { λ r. ⌜ r ≡ startOf b k ⌝ }
 {
-    let at = 93 * k;
+    let at = frame::RAW_MOST * k;
     if at < b + 2 {
         return at;
     }
@@ -85,7 +87,8 @@ fn put_head(b: usize, k: usize, raw: &mut [u8]) -> usize
 
 // Frame k's run of the body goes to the raw bytes from place at on; gives the place after it.
 fn put_middle(body: &[u8], k: usize, count: usize, raw: &mut [u8], at: usize) -> usize
-    requires { ⌜ (length (now body) ≤ 65533) × (k < 705) × (count ≡ frameCount (length (now body))) × (at + length (middleOf (now body) k) ≤ length (now raw)) ⌝ }
+    requires { ⌜ (length (now body) ≤ 65533) × (k < 705) × (count ≡ frameCount (length (now body)))
+        × (at + length (middleOf (now body) k) ≤ length (now raw)) ⌝ }
     ensures { λ r. ⌜ (r ≡ at + length (middleOf (now (body .entry)) k)) × (now (raw .exit) ≡ pasted (now (raw .entry)) at (middleOf (now (body .entry)) k)) ⌝ }
 {
     let b = body.len();
@@ -110,8 +113,10 @@ fn put_tail(body: &[u8], k: usize, count: usize, raw: &mut [u8], at: usize) -> u
 
 // Frame k's raw bytes go to the start of raw; gives how many there are.
 fn put_piece(body: &[u8], k: usize, count: usize, raw: &mut [u8]) -> usize
-    requires { ⌜ (8 ≤ length (now body)) × (length (now body) ≤ 65533) × (count ≡ frameCount (length (now body))) × (k < count) × (count ≤ 705) × (length (now raw) ≡ 93) ⌝ }
-    ensures { λ r. ⌜ (r ≡ length (pieceOf (now (body .entry)) k)) × (now (raw .exit) ≡ pasted (now (raw .entry)) 0 (pieceOf (now (body .entry)) k)) × (r ≤ 93) ⌝ }
+    requires { ⌜ (8 ≤ length (now body)) × (length (now body) ≤ 65533) × (count ≡ frameCount (length (now body)))
+        × (k < count) × (count ≤ 705) × (length (now raw) ≡ rawMost) ⌝ }
+    ensures { λ r. ⌜ (r ≡ length (pieceOf (now (body .entry)) k)) × (now (raw .exit) ≡ pasted (now (raw .entry)) 0 (pieceOf (now (body .entry)) k))
+        × (r ≤ rawMost) ⌝ }
 {
     let at = put_head(body.len(), k, raw);
     let after = put_middle(body, k, count, raw, at);
@@ -124,40 +129,41 @@ fn put_marker(k: usize, out: &mut [u8])
     ensures { λ _. ⌜ now (out .exit) ≡ pasted (now (out .entry)) 0 (markerOf k) ⌝ }
 {
     if k == 0 {
-        out[0] = 0x06;
-        out[1] = 0x09;
+        laws::put(out, 0, &frame::INITIAL);
         return;
     }
-    out[0] = 0x04;
-    out[1] = 0x14;
+    laws::put(out, 0, &frame::PARTIAL);
 }
 
 // The text of some raw bytes goes to out from its third byte on; gives how many characters it has.
 fn put_text(raw: &[u8], out: &mut [u8]) -> usize
-    requires { ⌜ (length (now raw) ≤ 93) × (127 ≤ length (now out)) ⌝ }
-    ensures { λ r. ⌜ (r ≡ length (encode (now (raw .entry)))) × (now (out .exit) ≡ pasted (now (out .entry)) 2 (encode (now (raw .entry)))) × (r ≤ 124) ⌝ }
+    requires { ⌜ (length (now raw) ≤ rawMost) × (longest ≤ length (now out)) ⌝ }
+    ensures { λ r. ⌜ (r ≡ length (encode (now (raw .entry)))) × (now (out .exit) ≡ pasted (now (out .entry)) 2 (encode (now (raw .entry))))
+        × (r ≤ longestText) ⌝ }
 {
     base64::encode(raw, &mut out[2..])
 }
 
 // Frame k's line with these raw bytes goes to the start of out; gives its length.
 fn put_line(k: usize, raw: &[u8], out: &mut [u8]) -> usize
-    requires { ⌜ (length (now raw) ≤ 93) × (127 ≤ length (now out)) ⌝ }
-    ensures { λ r. ⌜ (r ≡ length (frame (markerOf k) (now (raw .entry)))) × (now (out .exit) ≡ pasted (now (out .entry)) 0 (frame (markerOf k) (now (raw .entry)))) ⌝ }
+    requires { ⌜ (length (now raw) ≤ rawMost) × (longest ≤ length (now out)) ⌝ }
+    ensures { λ r. ⌜ (r ≡ length (frame (markerOf k) (now (raw .entry))))
+        × (now (out .exit) ≡ pasted (now (out .entry)) 0 (frame (markerOf k) (now (raw .entry)))) ⌝ }
 {
     put_marker(k, out);
     let n = put_text(raw, out);
     let end = 2 + n;
-    out[end] = 0x0A;
+    out[end] = frame::NEWLINE;
     end + 1
 }
 
 // The line of frame k of a body that takes `count` frames goes to the start of out; gives its length.
 fn write_frame(body: &[u8], k: usize, count: usize, out: &mut [u8]) -> usize
-    requires { ⌜ (8 ≤ length (now body)) × (length (now body) ≤ 65533) × (count ≡ frameCount (length (now body))) × (k < count) × (count ≤ 705) × (127 ≤ length (now out)) ⌝ }
+    requires { ⌜ (8 ≤ length (now body)) × (length (now body) ≤ 65533) × (count ≡ frameCount (length (now body)))
+        × (k < count) × (count ≤ 705) × (longest ≤ length (now out)) ⌝ }
     ensures { λ r. ⌜ (r ≡ length (frameOf (now (body .entry)) k)) × (now (out .exit) ≡ pasted (now (out .entry)) 0 (frameOf (now (body .entry)) k)) ⌝ }
 {
-    let mut raw = [0u8; 93];
+    let mut raw = [0u8; frame::RAW_MOST];
     let n = put_piece(body, k, count, &mut raw);
     put_line(k, &raw[..n], out)
 }
@@ -167,7 +173,7 @@ pub fn send_frame(body: &[u8], k: usize, out: &mut [u8]) -> Sent
     ensures { λ r. ⌜ outcome r (now (out .exit)) ≡ sendFrame (now (body .entry)) k (now (out .entry)) ⌝ }
 {
     let b = body.len();
-    if out.len() < 127 {
+    if out.len() < frame::LONGEST {
         return Sent::Refused(Refusal::Unsendable);
     }
     if b < 8 {

@@ -1,9 +1,9 @@
 -- `base64::chars` meets its contract: the table is the list of the characters of the first 64 numbers, by computation.
 -- Assumes nothing.
 use mathlib.Core.Path.{refl}
+use Rattle.laws.specs.Table.{tab}
 use Rattle.laws.specs.Choice.{pick}
 use Rattle.base64.specs.Base64.{char}
-use Rattle.base64.specs.Contract.{tab}
 use Rattle.base64.proofs.chars.Statement.{statement}
 use Rattle.base64.proofs.chars.Tie as tie
 

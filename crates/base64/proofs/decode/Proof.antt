@@ -34,7 +34,8 @@ returns-3 : tie.Need-returns-3
 returns-3 c =
     let a = c .before .before .before .before .before .before .before .before .before .before .before .args in
     let many = c .before .before .before .groups in
-    decodes-broken (a .text .now) (a .out .now) (many .last .1 .1 .1 .0) (length (a .text .now) / 4 - 1) (many .result) (omega arith) (many .ensures) (c .if3 .taken)
+    decodes-broken (a .text .now) (a .out .now) (many .last .1 .1 .1 .0) (length (a .text .now) / 4 - 1) (many .result) (omega arith) (many .ensures)
+    (c .if3 .taken)
 
 mul-last : tie.Need-mul-last
 mul-last c = search needs
@@ -53,7 +54,9 @@ returns-4 c =
     let a = c .before .before .before .before .before .before .before .before .before .before .before .before .before .before .before .before .before .args in
     let many = c .before .before .before .before .before .before .before .before .before .groups in
     let end = c .before .before .before .last in
-    decodes-bad (a .text .now) (a .out .now) (many .last .1 .1 .1 .0) (end .last .1 .1 .1 .0) (length (a .text .now) / 4 - 1) (many .result) (end .result) (omega arith) (omega arith) (many .ensures) (c .before .before .before .before .before .before .if3 .left) (end .ensures) (c .if4 .taken)
+    decodes-bad (a .text .now) (a .out .now) (many .last .1 .1 .1 .0) (end .last .1 .1 .1 .0) (length (a .text .now) / 4 - 1) (many .result)
+    (end .result) (omega arith) (omega arith) (many .ensures) (c .before .before .before .before .before .before .if3 .left) (end .ensures)
+    (c .if4 .taken)
 
 mul-t17 : tie.Need-mul-t17
 mul-t17 c = search needs
@@ -69,7 +72,9 @@ returns-5 c =
     let a = c .before .before .before .before .before .before .before .before .before .before .before .before .before .before .before .before .before .args in
     let many = c .before .before .before .before .before .before .before .before .before .groups in
     let end = c .before .before .before .last in
-    decodes-good (a .text .now) (a .out .now) (many .last .1 .1 .1 .0) (end .last .1 .1 .1 .0) (length (a .text .now) / 4 - 1) (many .result) (end .result) (omega arith) (omega arith) (many .ensures) (c .before .before .before .before .before .before .if3 .left) (end .ensures) (c .if4 .left)
+    decodes-good (a .text .now) (a .out .now) (many .last .1 .1 .1 .0) (end .last .1 .1 .1 .0) (length (a .text .now) / 4 - 1) (many .result)
+    (end .result) (omega arith) (omega arith) (many .ensures) (c .before .before .before .before .before .before .if3 .left) (end .ensures)
+    (c .if4 .left)
 
 pub decode-spec : {M : Type 1} → statement M
 decode-spec =

@@ -52,7 +52,8 @@ returns-2 c =
     let a = c .before .before .before .before .before .before .before .before .before .before .before .before .before .before .before .before .args in
     let many = c .before .before .before .before .before .before .before .before .before .before .encode-groups in
     let end = c .before .before .encode-one in
-    encodes-one (a .raw .now) (a .out .now) (many .last .1 .1 .1 .0) (end .last .1 .1 .0) (length (a .raw .now) / 3) (omega arith) (omega arith) (many .ensures) (end .ensures)
+    encodes-one (a .raw .now) (a .out .now) (many .last .1 .1 .1 .0) (end .last .1 .1 .0) (length (a .raw .now) / 3) (omega arith) (omega arith)
+    (many .ensures) (end .ensures)
 
 mul-encode-two : tie.Need-mul-encode-two
 mul-encode-two c = search needs
@@ -89,7 +90,8 @@ returns-3 c =
     let a = c .before .before .before .before .before .before .before .before .before .before .before .before .before .before .before .before .before .args in
     let many = c .before .before .before .before .before .before .before .before .before .before .before .encode-groups in
     let end = c .before .before .encode-two in
-    encodes-two (a .raw .now) (a .out .now) (many .last .1 .1 .1 .0) (end .last .1 .1 .1 .0) (length (a .raw .now) / 3) (omega arith) (omega arith) (many .ensures) (end .ensures)
+    encodes-two (a .raw .now) (a .out .now) (many .last .1 .1 .1 .0) (end .last .1 .1 .1 .0) (length (a .raw .now) / 3) (omega arith) (omega arith)
+    (many .ensures) (end .ensures)
 
 pub encode-spec : {M : Type 1} → statement M
 encode-spec =

@@ -24,7 +24,10 @@ shared-slice-read-c : tie.Need-shared-slice-read-c
 shared-slice-read-c c = search needs
 
 letter-requires : tie.Need-letter-requires
-letter-requires c κs = (c .before .before .before .before .before .pre .0, omega (arith, c .before .before .before .before .shared-slice-known .given (c .before .before .before .before .before .args .i)))
+letter-requires c κs = (
+  c .before .before .before .before .before .pre .0,
+  omega (arith, c .before .before .before .before .shared-slice-known .given (c .before .before .before .before .before .args .i)),
+)
 
 mul-letter : tie.Need-mul-letter
 mul-letter c = search needs
@@ -89,7 +92,8 @@ returns c =
     let l1 = c .before .before .before .letter in
     let l2 = c .before .before .letter2 in
     let l3 = c .before .letter3 in
-    text-three (a .out .now) (a .o) (getD (a .raw .now) (a .i) 0) (getD (a .raw .now) (a .i + 1) 0) (getD (a .raw .now) (a .i + 2) 0) (l1 .result) (l2 .result) (l3 .result) (c .letter4 .result) (c .before .before .before .before .before .before .before .before .before .pre .1 .1)
+    text-three (a .out .now) (a .o) (getD (a .raw .now) (a .i) 0) (getD (a .raw .now) (a .i + 1) 0) (getD (a .raw .now) (a .i + 2) 0) (l1 .result)
+    (l2 .result) (l3 .result) (c .letter4 .result) (c .before .before .before .before .before .before .before .before .before .pre .1 .1)
     (l1 .ensures) (l2 .ensures) (l3 .ensures) (c .letter4 .ensures)
 
 pub encode-group-spec : {M : Type 1} → statement M

@@ -7,7 +7,7 @@ use lib.ListN.{length}
 use Rattle.laws.specs.Bytes.{pasted}
 use Rattle.laws.proofs.Lists.{pasted-none}
 use Rattle.base64.specs.Base64.{encode}
-use Rattle.base64.specs.Contract.{headText}
+use Rattle.base64.specs.Inner.{headText}
 use Rattle.base64.proofs.Texts.{encode-next}
 use Rattle.base64.proofs.encode_groups.Statement.{statement}
 use Rattle.base64.proofs.encode_groups.Tie as tie

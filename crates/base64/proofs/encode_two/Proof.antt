@@ -54,7 +54,8 @@ returns c =
     let a = c .before .before .before .before .args in
     let l1 = c .before .before .letter in
     let l2 = c .before .letter2 in
-    text-two (a .out .now) (a .o) (a .a) (a .b) (l1 .result) (l2 .result) (c .letter3 .result) (c .before .before .before .before .pre .1) (l1 .ensures) (l2 .ensures) (c .letter3 .ensures)
+    text-two (a .out .now) (a .o) (a .a) (a .b) (l1 .result) (l2 .result) (c .letter3 .result) (c .before .before .before .before .pre .1)
+    (l1 .ensures) (l2 .ensures) (c .letter3 .ensures)
 
 pub encode-two-spec : {M : Type 1} → statement M
 encode-two-spec =

@@ -49,7 +49,8 @@ returns-3 : tie.Need-returns-3
 returns-3 c =
     let a = c .before .before .before .before .before .before .before .before .before .args in
     let one = c .before .before .before .group in
-    all-good (a .text .now) (a .i) (a .out .now) (a .o) (one .result) (one .last .1 .1 .1 .0) (c .before .before .before .before .before .if1 .left) (one .ensures) (c .if3 .taken)
+    all-good (a .text .now) (a .i) (a .out .now) (a .o) (one .result) (one .last .1 .1 .1 .0) (c .before .before .before .before .before .if1 .left)
+    (one .ensures) (c .if3 .taken)
 
 same-length-4 : tie.Need-same-length-4
 same-length-4 c = search needs
@@ -58,7 +59,8 @@ returns-4 : tie.Need-returns-4
 returns-4 c =
     let a = c .before .before .before .before .before .before .before .before .before .args in
     let one = c .before .before .before .group in
-    all-bad (a .text .now) (a .i) (a .out .now) (a .o) (one .result) (one .last .1 .1 .1 .0) (c .before .before .before .before .before .if1 .left) (one .ensures) (c .if3 .left)
+    all-bad (a .text .now) (a .i) (a .out .now) (a .o) (one .result) (one .last .1 .1 .1 .0) (c .before .before .before .before .before .if1 .left)
+    (one .ensures) (c .if3 .left)
 
 pub last-spec : {M : Type 1} → statement M
 last-spec =

@@ -4,7 +4,8 @@ use mathlib.Core.Path.{refl}
 use mathlib.Core.List.{[], _∷_}
 use Prim.Native.Nat.{_+_, _*_, _/_}
 use native.Mathlib.Omega.{arith}
-use Rattle.base64.proofs.Steps.{last-bad, last-good, store-one, one-bad-first, one-bad-second, one-bad-bits, one-good}
+use Rattle.laws.proofs.Lists.{set-pasted}
+use Rattle.base64.proofs.Steps.{last-bad, last-good, one-bad-first, one-bad-second, one-bad-bits, one-good}
 use borrow.Author.Needs.{needs}
 use Rattle.base64.proofs.last_one.Statement.{statement}
 use Rattle.base64.proofs.last_one.Tie as tie
@@ -69,8 +70,9 @@ returns-4 c =
     let l1 = c .before .before .before .before .before .look in
     let l2 = c .before .before .look2 in
     last-good _ ((l1 .result * 4 + l2 .result / 16) ∷ []) (a .out .now) (a .o) _
-    (one-good _ _ _ _ (l1 .result) (l2 .result) (given .1 .1 .1 .0) (given .1 .1 .1 .1) (l1 .ensures) (l2 .ensures) (c .before .before .before .before .if1 .left) (c .before .if2 .left) (c .if3 .left))
-    (store-one (a .out .now) (a .o) (l1 .result * 4 + l2 .result / 16) (omega arith))
+    (one-good _ _ _ _ (l1 .result) (l2 .result) (given .1 .1 .1 .0) (given .1 .1 .1 .1) (l1 .ensures) (l2 .ensures)
+    (c .before .before .before .before .if1 .left) (c .before .if2 .left) (c .if3 .left))
+    (set-pasted (a .out .now) (a .o) (l1 .result * 4 + l2 .result / 16) (omega arith))
 
 pub last-one-spec : {M : Type 1} → statement M
 last-one-spec =

@@ -5,7 +5,8 @@ use mathlib.Core.List.{[], _∷_}
 use Prim.Native.Nat.{_+_, _*_, _/_, _%_}
 use native.Mathlib.Omega.{arith}
 use lib.ListN.{length-set}
-use Rattle.base64.proofs.Steps.{last-bad, last-good, store-two, two-bad-first, two-bad-second, two-bad-third, two-bad-bits, two-good}
+use Rattle.laws.proofs.Lists.{set-twice-pasted}
+use Rattle.base64.proofs.Steps.{last-bad, last-good, two-bad-first, two-bad-second, two-bad-third, two-bad-bits, two-good}
 use borrow.Author.Needs.{needs}
 use Rattle.base64.proofs.last_two.Statement.{statement}
 use Rattle.base64.proofs.last_two.Tie as tie
@@ -59,7 +60,8 @@ returns-3 c =
     let l2 = c .before .before .before .before .look2 in
     let l3 = c .before .look3 in
     last-bad _ (a .out .now) (a .o)
-    (two-bad-third _ _ _ _ (l1 .result) (l2 .result) (l3 .result) (given .1 .1 .1 .0) (given .1 .1 .1 .1) (l1 .ensures) (l2 .ensures) (l3 .ensures) (c .if3 .taken))
+    (two-bad-third _ _ _ _ (l1 .result) (l2 .result) (l3 .result) (given .1 .1 .1 .0) (given .1 .1 .1 .1) (l1 .ensures) (l2 .ensures) (l3 .ensures)
+    (c .if3 .taken))
 
 returns-4 : tie.Need-returns-4
 returns-4 c =
@@ -69,7 +71,8 @@ returns-4 c =
     let l2 = c .before .before .before .before .before .look2 in
     let l3 = c .before .before .look3 in
     last-bad _ (a .out .now) (a .o)
-    (two-bad-bits _ _ _ _ (l1 .result) (l2 .result) (l3 .result) (given .1 .1 .1 .0) (given .1 .1 .1 .1) (l1 .ensures) (l2 .ensures) (l3 .ensures) (c .if4 .taken))
+    (two-bad-bits _ _ _ _ (l1 .result) (l2 .result) (l3 .result) (given .1 .1 .1 .0) (given .1 .1 .1 .1) (l1 .ensures) (l2 .ensures) (l3 .ensures)
+    (c .if4 .taken))
 
 mul-out : tie.Need-mul-out
 mul-out c = search needs
@@ -103,8 +106,10 @@ returns-5 c =
     let l2 = c .before .before .before .before .before .look2 in
     let l3 = c .before .before .look3 in
     last-good _ ((l1 .result * 4 + l2 .result / 16) ∷ (l2 .result % 16 * 16 + l3 .result / 4) ∷ []) (a .out .now) (a .o) _
-    (two-good _ _ _ _ (l1 .result) (l2 .result) (l3 .result) (given .1 .1 .1 .0) (given .1 .1 .1 .1) (l1 .ensures) (l2 .ensures) (l3 .ensures) (c .before .before .before .before .before .before .before .if1 .left) (c .before .before .before .before .if2 .left) (c .before .if3 .left) (c .if4 .left))
-    (store-two (a .out .now) (a .o) (l1 .result * 4 + l2 .result / 16) (l2 .result % 16 * 16 + l3 .result / 4) (omega arith))
+    (two-good _ _ _ _ (l1 .result) (l2 .result) (l3 .result) (given .1 .1 .1 .0) (given .1 .1 .1 .1) (l1 .ensures) (l2 .ensures) (l3 .ensures)
+    (c .before .before .before .before .before .before .before .if1 .left) (c .before .before .before .before .if2 .left) (c .before .if3 .left)
+    (c .if4 .left))
+    (set-twice-pasted (a .out .now) (a .o) (l1 .result * 4 + l2 .result / 16) (l2 .result % 16 * 16 + l3 .result / 4) (omega arith))
 
 pub last-two-spec : {M : Type 1} → statement M
 last-two-spec =

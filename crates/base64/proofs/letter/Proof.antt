@@ -1,7 +1,7 @@
 -- `base64::letter` meets its contract: what stands in the table at a number is its character.
 -- Assumes nothing.
 use Rattle.base64.specs.Base64.{char}
-use Rattle.base64.proofs.Steps.{entry}
+use Rattle.laws.proofs.Table.{tab-entry}
 use borrow.Author.Needs.{needs}
 use Rattle.base64.proofs.letter.Statement.{statement}
 use Rattle.base64.proofs.letter.Tie as tie
@@ -13,7 +13,7 @@ returns : tie.Need-returns
 returns c =
     let a = c .before .args in
     let given = c .before .pre in
-    entry char 64 (a .v) (a .table .now) (given .0) (given .1)
+    tab-entry char 64 (a .v) (a .table .now) (given .0) (given .1)
 
 pub letter-spec : {M : Type 1} → statement M
 letter-spec = tie.close (tie.spec element-copy-out-result returns)

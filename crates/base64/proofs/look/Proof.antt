@@ -2,7 +2,7 @@
 -- Assumes nothing.
 use borrow.Author.Needs.{needs}
 use Rattle.base64.specs.Base64.{value}
-use Rattle.base64.proofs.Steps.{entry}
+use Rattle.laws.proofs.Table.{tab-entry}
 use Rattle.base64.proofs.look.Statement.{statement}
 use Rattle.base64.proofs.look.Tie as tie
 
@@ -12,7 +12,7 @@ element-copy-out-result c = search needs
 returns : tie.Need-returns
 returns c =
     let a = c .before .args in
-    entry value 256 (a .c) (a .table .now) (c .before .pre) (search needs)
+    tab-entry value 256 (a .c) (a .table .now) (c .before .pre) (search needs)
 
 pub look-spec : {M : Type 1} → statement M
 look-spec = tie.close (tie.spec element-copy-out-result returns)

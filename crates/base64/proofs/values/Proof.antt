@@ -1,9 +1,9 @@
 -- `base64::values` meets its contract: the table is the list of the values of the first 256 numbers, by computation.
 -- Assumes nothing.
 use mathlib.Core.Path.{refl}
+use Rattle.laws.specs.Table.{tab}
 use Rattle.laws.specs.Choice.{pick, both}
 use Rattle.base64.specs.Base64.{value}
-use Rattle.base64.specs.Contract.{tab}
 use Rattle.base64.proofs.values.Statement.{statement}
 use Rattle.base64.proofs.values.Tie as tie
 

@@ -21,7 +21,9 @@ same-length : tie.Need-same-length
 same-length c = search needs
 
 returns : tie.Need-returns
-returns c = copied-part (c .before .before .before .before .before .before .args .buf .now) (c .before .before .before .before .before .before .args .at) (c .before .before .before .before .before .before .args .src .now) (c .before .before .copy .last .1 .0) (c .before .before .copy .ensures .1)
+returns c =
+    let a = c .before .before .before .before .before .before .args in
+    copied-part (a .buf .now) (a .at) (a .src .now) (c .before .before .copy .last .1 .0) (c .before .before .copy .ensures .1)
 
 pub put-spec : {M : Type 1} → statement M
 put-spec = tie.close (tie.spec sub-copy part-copy-start part-copy-end copy-requires same-length returns)

@@ -1,21 +1,18 @@
--- `reader::begin_packet` meets its contract: total stands in the first two raw bytes.
+-- `reader::begin_packet` meets its contract: total stands in the first two raw bytes, and what follows it comes first of its packet.
 -- Assumes nothing.
-use mathlib.Core.Path.{_≡_, sym, ap₂, _∙_}
-use mathlib.Core.List.{List}
+use mathlib.Core.Path.{_≡_, sym, ap, ap₂, _∙_}
 use Prim.Native.Nat.{ℕ, _+_, _*_}
 use native.Mathlib.Omega.{arith}
+use lib.ListN.{drop}
 use Rattle.laws.specs.Bytes.{ofBe16}
 use Rattle.reader.specs.Reader.{absorb}
-use Rattle.laws.proofs.Lists.{rest-all}
 use Rattle.reader.proofs.Laws.{begin-short, begin-small, begin-packet}
 use borrow.Author.Needs.{needs}
 use Rattle.reader.proofs.begin_packet.Statement.{statement}
 use Rattle.reader.proofs.begin_packet.Tie as tie
 
 returns : tie.Need-returns
-returns c =
-    let a = c .before .before .before .args in
-    sym (begin-short (a .raw .now) (a .p .now) (omega arith))
+returns c = record { bounded = tt; leads = λ p. sym (begin-short (c .before .before .args .raw .now) p (omega arith)) }
 
 shared-slice-read-wide : tie.Need-shared-slice-read-wide
 shared-slice-read-wide c = search needs
@@ -38,32 +35,20 @@ add-total c = search needs
 returns-2 : tie.Need-returns-2
 unfolding ofBe16
 returns-2 c =
-    let a = c .before .before .before .before .before .before .before .before .args in
-    sym (begin-small (a .raw .now) (a .p .now) (omega arith) (omega arith))
-
-sub-take-bytes : tie.Need-sub-take-bytes
-sub-take-bytes c = search needs
-
-part-take-bytes-start : tie.Need-part-take-bytes-start
-part-take-bytes-start c = search needs
-
-part-take-bytes-end : tie.Need-part-take-bytes-end
-part-take-bytes-end c = search needs
-
-take-bytes-requires : tie.Need-take-bytes-requires
-take-bytes-requires c κs = search needs
-
-same-length : tie.Need-same-length
-same-length c = search needs
+    record
+    { bounded = tt; leads = λ p. sym (begin-small (c .before .before .before .before .before .before .before .args .raw .now) p (omega arith) (omega arith)) }
 
 returns-3 : tie.Need-returns-3
 unfolding ofBe16
 returns-3 c =
-    let a = c .before .before .before .before .before .before .before .before .before .before .before .before .before .args in
-    let total : c .before .before .before .before .before .before .before .before .wide .result * 256 + c .before .before .before .before .before .before .wide2 .result ≡ ofBe16 (a .raw .now) = ap₂ (λ (h l : ℕ). h * 256 + l) (c .before .before .before .before .before .before .before .before .wide .ensures .0) (c .before .before .before .before .before .before .wide2 .ensures .0) in
-    c .before .before .take-bytes .ensures
-    ∙ ap₂ (λ (n : ℕ) (l : List ℕ). absorb n 0 0 l (a .p .now)) total (rest-all (a .raw .now) 2)
-    ∙ sym (begin-packet (a .raw .now) (a .p .now) (omega arith) (omega arith))
+    let raw = c .before .before .before .before .before .before .before .args .raw .now in
+    let high = c .before .before .before .wide in
+    let low = c .before .wide2 in
+    let total : high .result * 256 + low .result ≡ ofBe16 raw = ap₂ (λ (h l : ℕ). h * 256 + l) (high .ensures .0) (low .ensures .0) in
+    record {
+      bounded = (omega arith, omega arith, omega arith, omega arith);
+      leads = λ p. ap (λ (n : ℕ). absorb n 0 0 (drop 2 raw) p) total ∙ sym (begin-packet raw p (omega arith) (omega arith));
+    }
 
 pub begin-packet-spec : {M : Type 1} → statement M
 begin-packet-spec =
@@ -77,9 +62,4 @@ begin-packet-spec =
     wide-requires-2
     add-total
     returns-2
-    sub-take-bytes
-    part-take-bytes-start
-    part-take-bytes-end
-    take-bytes-requires
-    same-length
     returns-3)

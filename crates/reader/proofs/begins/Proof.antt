@@ -8,18 +8,28 @@ use Rattle.reader.proofs.begins.Tie as tie
 shared-slice-read-if1 : tie.Need-shared-slice-read-if1
 shared-slice-read-if1 c = search needs
 
+array-read-if1 : tie.Need-array-read-if1
+array-read-if1 c = search needs
+
 shared-slice-read-result : tie.Need-shared-slice-read-result
 shared-slice-read-result c = search needs
 
+array-read-result : tie.Need-array-read-result
+array-read-result c = search needs
+
 returns : tie.Need-returns
-returns c =
-    let a = c .before .before .before .args in
-    marked-both (a .a) (a .b) (a .line .now) (c .before .if1 .taken)
+returns c = marked-both _ _ (c .before .before .before .args .line .now) (c .before .if1 .taken)
 
 returns-2 : tie.Need-returns-2
-returns-2 c =
-    let a = c .before .before .args in
-    marked-not (a .a) (a .b) (a .line .now) (c .if1 .left)
+returns-2 c = marked-not _ _ (c .before .before .args .line .now) (c .if1 .left)
 
 pub begins-spec : {M : Type 1} → statement M
-begins-spec = tie.close (tie.spec shared-slice-read-if1 shared-slice-read-result returns returns-2)
+begins-spec =
+    tie.close
+    (tie.spec
+    shared-slice-read-if1
+    array-read-if1
+    shared-slice-read-result
+    array-read-result
+    returns
+    returns-2)

@@ -22,7 +22,8 @@ same-length c = search needs
 returns : tie.Need-returns
 returns c =
     let a = c .before .before .before .before .before .before .args in
-    sym (completed-wrong (a .total) (a .come) (a .first) (a .x .now) (a .p .now) (λ e. c .if1 .taken (c .before .before .before .crc-came .ensures ∙ e ∙ sym (c .before .crc-due .ensures))))
+    sym (completed-wrong (a .total) (a .come) (a .first) (a .x .now) (a .p .now)
+    (λ e. c .if1 .taken (c .before .before .before .crc-came .ensures ∙ e ∙ sym (c .before .crc-due .ensures))))
 
 fill-requires : tie.Need-fill-requires
 fill-requires c κs = search needs
@@ -38,7 +39,9 @@ returns-2 c =
     let a = c .before .before .before .before .before .before .before .before .before .before .args in
     let kept : List ℕ → Outcome = λ p. record { says = body (a .total - 2); reader = Idle; buffer = p } in
     ap kept (c .before .before .fill .ensures)
-    ∙ sym (completed-right (a .total) (a .come) (a .first) (a .x .now) (a .p .now) (sym (c .before .before .before .before .before .before .before .crc-came .ensures) ∙ c .before .before .before .before .if1 .left ∙ c .before .before .before .before .before .crc-due .ensures))
+    ∙ sym (completed-right (a .total) (a .come) (a .first) (a .x .now) (a .p .now) (sym
+    (c .before .before .before .before .before .before .before .crc-came .ensures) ∙ c .before .before .before .before .if1 .left ∙ c .before .before
+    .before .before .before .crc-due .ensures))
 
 pub complete-spec : {M : Type 1} → statement M
 complete-spec =

@@ -1,9 +1,12 @@
 -- `reader::take_line` meets its contract: its tests are those of the definition, in the order of the refusals.
 -- Assumes nothing.
-use mathlib.Core.Path.{sym, _∙_}
+use mathlib.Core.Path.{_≡_, sym, _∙_}
+use mathlib.Core.Bool.{true, false, false≢true}
+use mathlib.Core.Logic.{⊎-elim}
 use native.Mathlib.Omega.{arith}
-use Rattle.laws.proofs.Choice.{pick-yes, pick-no}
-use Rattle.reader.proofs.Laws.{line-long, line-short, line-unended, line-marked}
+use borrow.Author.Tests.{not-true, not-false}
+use Rattle.frame.specs.Line.{partial, beginsWith}
+use Rattle.reader.proofs.Laws.{line-long, line-short, line-unended, line-unmarked, line-framed}
 use borrow.Author.Needs.{needs}
 use Rattle.reader.proofs.take_line.Statement.{statement}
 use Rattle.reader.proofs.take_line.Tie as tie
@@ -32,37 +35,35 @@ returns-3 c =
 begins-requires : tie.Need-begins-requires
 begins-requires c κs = search needs
 
+begins-requires-2 : tie.Need-begins-requires-2
+begins-requires-2 c κs = search needs
+
+returns-4 : tie.Need-returns-4
+returns-4 c =
+    let a = c .before .before .before .before .before .before .before .before .before .before .args in
+    let first = c .before .before .before .begins in
+    let second = c .before .begins2 in
+    sym (line-unmarked (a .reader) (a .line .now) (a .p .now) (omega arith) (omega arith) (c .before .before .before .before .if3 .left)
+    (sym (first .ensures) ∙ not-true (first .result) (c .before .before .if4 .taken)) (sym (second .ensures) ∙ not-true (second .result) (c .if5 .taken)))
+
 take-frame-requires : tie.Need-take-frame-requires
 take-frame-requires c κs = search needs
 
 same-length : tie.Need-same-length
 same-length c = search needs
 
-returns-4 : tie.Need-returns-4
-returns-4 c =
-    let a = c .before .before .before .before .before .before .before .before .before .before .before .before .args in
-    c .before .before .take-frame .ensures
-    ∙ sym (line-marked (a .reader) (a .line .now) (a .p .now) (omega arith) (omega arith) (c .before .before .before .before .before .before .if3 .left) ∙ rw (sym (c .before .before .before .before .before .begins .ensures) ∙ c .before .before .before .before .if4 .taken, pick-yes))
-
-begins-requires-2 : tie.Need-begins-requires-2
-begins-requires-2 c κs = search needs
-
-take-frame-requires-2 : tie.Need-take-frame-requires-2
-take-frame-requires-2 c κs = search needs
-
-same-length-2 : tie.Need-same-length-2
-same-length-2 c = search needs
-
 returns-5 : tie.Need-returns-5
 returns-5 c =
-    let a = c .before .before .before .before .before .before .before .before .before .before .before .before .before .before .args in
-    c .before .before .take-frame2 .ensures
-    ∙ sym (line-marked (a .reader) (a .line .now) (a .p .now) (omega arith) (omega arith) (c .before .before .before .before .before .before .before .before .if3 .left) ∙ rw (sym (c .before .before .before .before .before .before .before .begins .ensures) ∙ c .before .before .before .before .before .before .if4 .left, pick-no, sym (c .before .before .before .before .before .begins2 .ensures) ∙ c .before .before .before .before .if5 .taken, pick-yes))
-
-returns-6 : tie.Need-returns-6
-returns-6 c =
-    let a = c .before .before .before .before .before .before .before .before .before .before .args in
-    sym (line-marked (a .reader) (a .line .now) (a .p .now) (omega arith) (omega arith) (c .before .before .before .before .if3 .left) ∙ rw (sym (c .before .before .before .begins .ensures) ∙ c .before .before .if4 .left, pick-no, sym (c .before .begins2 .ensures) ∙ c .if5 .left, pick-no))
+    let a = c .before .before .before .before .before .before .before .before .before .before .before .before .args in
+    let first = c .before .before .before .before .before .begins in
+    let second : first .result ≡ false → beginsWith partial (a .line .now) ≡ true = λ e.
+    ⊎-elim (λ w. sym (w .1 .ensures) ∙ not-false (w .1 .result) (w .2 .left))
+    (λ w. absurd (false≢true (sym e ∙ not-false (first .result) (w .left))))
+    (c .before .before .before .before .if4 .came)
+    in
+    c .before .before .take-frame .ensures
+    ∙ sym (line-framed (a .reader) (a .line .now) (a .p .now) (omega arith) (omega arith)
+    (c .before .before .before .before .before .before .if3 .left) (first .result) (first .ensures) second)
 
 pub take-line-spec : {M : Type 1} → statement M
 take-line-spec =
@@ -74,11 +75,8 @@ take-line-spec =
     shared-slice-read-if3
     returns-3
     begins-requires
+    begins-requires-2
+    returns-4
     take-frame-requires
     same-length
-    returns-4
-    begins-requires-2
-    take-frame-requires-2
-    same-length-2
-    returns-5
-    returns-6)
+    returns-5)

@@ -16,6 +16,9 @@ returns-2 c = (sym (count-two (c .before .before .args .b) (omega arith) (omega 
 sub-result : tie.Need-sub-result
 sub-result c = search needs
 
+sub-result-2 : tie.Need-sub-result-2
+sub-result-2 c = search needs
+
 add-result : tie.Need-add-result
 add-result c = search needs
 
@@ -27,4 +30,4 @@ returns-3 c = (sym (count-many (c .before .before .args .b) (omega arith)), omeg
 
 pub frame-count-spec : {M : Type 1} → statement M
 frame-count-spec =
-    tie.close (tie.spec returns returns-2 sub-result add-result add-result-2 returns-3)
+    tie.close (tie.spec returns returns-2 sub-result sub-result-2 add-result add-result-2 returns-3)

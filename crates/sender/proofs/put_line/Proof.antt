@@ -25,13 +25,25 @@ add-result c = search needs
 same-length : tie.Need-same-length
 same-length c =
     let a = c .before .before .before .before .before .before .before .before .before .before .args in
-    let parts = line-parts (a .k) (a .raw .now) (a .out .now) (c .before .before .before .before .before .before .put-marker .last .1 .0) (c .before .before .put-text .last .1 .0) (c .before .before .put-text .result) (omega (arith, text-room (a .raw .now) (c .before .before .before .before .before .before .before .before .before .before .pre .0))) (c .before .before .before .before .before .before .put-marker .ensures) (c .before .before .put-text .ensures .0) (c .before .before .put-text .ensures .1) in
+    let parts =
+    line-parts (a .k) (a .raw .now) (a .out .now) (c .before .before .before .before .before .before .put-marker .last .1 .0)
+    (c .before .before .put-text .last .1 .0) (c .before .before .put-text .result)
+    (omega (arith, text-room (a .raw .now) (c .before .before .before .before .before .before .before .before .before .before .pre .0)))
+    (c .before .before .before .before .before .before .put-marker .ensures) (c .before .before .put-text .ensures .0)
+    (c .before .before .put-text .ensures .1)
+    in
     simp length-set (parts .2)
 
 returns : tie.Need-returns
 returns c =
     let a = c .before .before .before .before .before .before .before .before .before .before .args in
-    let parts = line-parts (a .k) (a .raw .now) (a .out .now) (c .before .before .before .before .before .before .put-marker .last .1 .0) (c .before .before .put-text .last .1 .0) (c .before .before .put-text .result) (omega (arith, text-room (a .raw .now) (c .before .before .before .before .before .before .before .before .before .before .pre .0))) (c .before .before .before .before .before .before .put-marker .ensures) (c .before .before .put-text .ensures .0) (c .before .before .put-text .ensures .1) in
+    let parts =
+    line-parts (a .k) (a .raw .now) (a .out .now) (c .before .before .before .before .before .before .put-marker .last .1 .0)
+    (c .before .before .put-text .last .1 .0) (c .before .before .put-text .result)
+    (omega (arith, text-room (a .raw .now) (c .before .before .before .before .before .before .before .before .before .before .pre .0)))
+    (c .before .before .before .before .before .before .put-marker .ensures) (c .before .before .put-text .ensures .0)
+    (c .before .before .put-text .ensures .1)
+    in
     (parts .0, parts .1)
 
 pub put-line-spec : {M : Type 1} → statement M

@@ -29,7 +29,10 @@ part-put-end c = search needs
 put-requires : tie.Need-put-requires
 put-requires c κs =
     let a = c .before .before .before .before .before .before .args in
-    let e = middle-is (a .body .now) (a .k) (c .before .before .before .body-start .result) (c .before .before .body-end .result) (c .before .before .before .body-start .ensures) (c .before .before .body-end .ensures .0) in
+    let e =
+    middle-is (a .body .now) (a .k) (c .before .before .before .body-start .result) (c .before .before .body-end .result)
+    (c .before .before .before .body-start .ensures) (c .before .before .body-end .ensures .0)
+    in
     omega (arith, ap length e)
 
 sub-result : tie.Need-sub-result
@@ -46,7 +49,10 @@ returns c =
     let a = c .before .before .before .before .before .before .before .before .before .args in
     let from = c .before .before .before .before .before .before .body-start .result in
     let to = c .before .before .before .before .before .body-end .result in
-    let e = middle-is (a .body .now) (a .k) from to (c .before .before .before .before .before .before .body-start .ensures) (c .before .before .before .before .before .body-end .ensures .0) in
+    let e =
+    middle-is (a .body .now) (a .k) from to (c .before .before .before .before .before .before .body-start .ensures)
+    (c .before .before .before .before .before .body-end .ensures .0)
+    in
     let n : length (take (to - from) (drop from (a .body .now))) ≡ to - from = simp (length-take, length-drop) (omega arith) in
     (omega (arith, ap length e), c .before .before .put .ensures ∙ ap (λ (l : List ℕ). pasted (a .raw .now) (a .at) l) (sym e))
 

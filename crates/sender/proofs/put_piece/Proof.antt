@@ -42,9 +42,14 @@ returns c =
     let size = piece-length s (a .k) below in
     let sum = parts-length s (a .k) in (
       omega arith,
-      parts-pasted s (a .k) (a .raw .now) (c .before .before .before .before .before .before .before .before .before .before .put-head .last .1 .1 .0) (c .before .before .before .before .before .before .put-middle .last .1 .1 .1 .0) (c .before .before .put-tail .last .1 .1 .1 .0)
-          (c .before .before .before .before .before .before .before .before .before .before .put-head .result) (c .before .before .before .before .before .before .put-middle .result) (omega arith)
-          (c .before .before .before .before .before .before .before .before .before .before .put-head .ensures .0) (c .before .before .before .before .before .before .before .before .before .before .put-head .ensures .1) (c .before .before .before .before .before .before .put-middle .ensures .0) (c .before .before .before .before .before .before .put-middle .ensures .1) (c .before .before .put-tail .ensures .1),
+      parts-pasted s (a .k) (a .raw .now) (c .before .before .before .before .before .before .before .before .before .before .put-head .last .1 .1 .0)
+          (c .before .before .before .before .before .before .put-middle .last .1 .1 .1 .0) (c .before .before .put-tail .last .1 .1 .1 .0)
+          (c .before .before .before .before .before .before .before .before .before .before .put-head .result)
+          (c .before .before .before .before .before .before .put-middle .result) (omega arith)
+          (c .before .before .before .before .before .before .before .before .before .before .put-head .ensures .0)
+          (c .before .before .before .before .before .before .before .before .before .before .put-head .ensures .1)
+          (c .before .before .before .before .before .before .put-middle .ensures .0)
+          (c .before .before .before .before .before .before .put-middle .ensures .1) (c .before .before .put-tail .ensures .1),
       omega arith,
     )
 

@@ -38,16 +38,20 @@ same-length c = search needs
 returns : tie.Need-returns
 returns c =
     let a = c .before .before .before .before .before .before .before .before .args in
-    let e = tail-last (a .body .now) (a .k) (c .before .before .before .before .before .if1 .taken ∙ c .before .before .before .before .before .before .before .before .pre .1) in (
+    let e = tail-last (a .body .now) (a .k)
+    (c .before .before .before .before .before .if1 .taken ∙ c .before .before .before .before .before .before .before .before .pre .1) in (
       omega (arith, ap length e, be16-length (crcOf (a .body .now))),
-      c .before .before .put-be16 .ensures ∙ ap (λ (n : ℕ). pasted (a .raw .now) (a .at) (be16 n)) (c .before .before .before .before .continued .ensures) ∙ ap (λ (l : List ℕ). pasted (a .raw .now) (a .at) l) (sym e),
+      c .before .before .put-be16 .ensures ∙ ap (λ (n : ℕ). pasted (a .raw .now) (a .at) (be16 n))
+          (c .before .before .before .before .continued .ensures) ∙ ap (λ (l : List ℕ). pasted (a .raw .now) (a .at) l) (sym e),
     )
 
 returns-2 : tie.Need-returns-2
 returns-2 c =
     let a = c .before .before .before .args in
-    let e = tail-other (a .body .now) (a .k) (λ q. c .if1 .left (q ∙ sym (c .before .before .before .pre .1))) in
-    (sym (add-zero (a .at)) ∙ ap (λ (l : List ℕ). a .at + length l) (sym e), sym (pasted-none (a .raw .now) (a .at)) ∙ ap (λ (l : List ℕ). pasted (a .raw .now) (a .at) l) (sym e))
+    let e = tail-other (a .body .now) (a .k) (λ q. c .if1 .left (q ∙ sym (c .before .before .before .pre .1))) in (
+      sym (add-zero (a .at)) ∙ ap (λ (l : List ℕ). a .at + length l) (sym e),
+      sym (pasted-none (a .raw .now) (a .at)) ∙ ap (λ (l : List ℕ). pasted (a .raw .now) (a .at) l) (sym e),
+    )
 
 pub put-tail-spec : {M : Type 1} → statement M
 put-tail-spec =

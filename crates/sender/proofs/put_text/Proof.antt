@@ -26,8 +26,11 @@ same-length c = search needs
 returns : tie.Need-returns
 returns c =
     let a = c .before .before .before .before .before .before .args in
-    let e = c .before .before .encode .ensures in
-    (e .count, part-pasted (a .out .now) 2 (encode (a .raw .now)) (c .before .before .encode .last .1 .0) (e .text), omega (arith, e .count, text-room (a .raw .now) (c .before .before .before .before .before .before .pre .0)))
+    let e = c .before .before .encode .ensures in (
+      e .count,
+      part-pasted (a .out .now) 2 (encode (a .raw .now)) (c .before .before .encode .last .1 .0) (e .text),
+      omega (arith, e .count, text-room (a .raw .now) (c .before .before .before .before .before .before .pre .0)),
+    )
 
 pub put-text-spec : {M : Type 1} → statement M
 put-text-spec =

@@ -33,7 +33,8 @@ returns-4 : tie.Need-returns-4
 returns-4 c =
     let a = c .before .before .before .before .before .before .before .args in
     let past : frameCount (length (a .body .now)) ≤ a .k = omega arith in
-    sym (send-beyond (a .body .now) (a .k) (a .out .now) (sendable-is (length (a .body .now)) (length (a .out .now)) (omega arith) (omega arith) (omega arith)) past)
+    sym (send-beyond (a .body .now) (a .k) (a .out .now)
+    (sendable-is (length (a .body .now)) (length (a .out .now)) (omega arith) (omega arith) (omega arith)) past)
 
 write-frame-requires : tie.Need-write-frame-requires
 write-frame-requires c κs = search needs
@@ -48,7 +49,8 @@ returns-5 c =
     let below : a .k < frameCount (length (a .body .now)) = omega arith in
     let sent : ℕ → ℕ → List ℕ → Outcome = λ n m l. record { says = frameIs n m; buffer = l } in
     (λ i. sent (w .0 i) (c .before .before .before .before .before .frame-count .ensures .0 i) (w .1 i))
-    ∙ sym (send-frame (a .body .now) (a .k) (a .out .now) (sendable-is (length (a .body .now)) (length (a .out .now)) (omega arith) (omega arith) (omega arith)) below)
+    ∙ sym (send-frame (a .body .now) (a .k) (a .out .now)
+    (sendable-is (length (a .body .now)) (length (a .out .now)) (omega arith) (omega arith) (omega arith)) below)
 
 pub send-frame-spec : {M : Type 1} → statement M
 send-frame-spec =

@@ -1,5 +1,5 @@
 -- Noise changes nothing: a line that draws refusal 2 or 3 draws it from every record and buffer, and leaves them. So the noise between
--- frames can be left out.
+-- lines can be left out.
 -- Assumes nothing.
 use mathlib.Core.Path.{_≡_, refl, ap, _∙_}
 use Prim.Native.Nat.{ℕ, _+_, _-_}
@@ -14,11 +14,11 @@ use Rattle.laws.specs.Choice.{pick}
 use Rattle.laws.specs.Bytes.{ofBe16}
 use Rattle.laws.proofs.Choice.{pick-case}
 use Rattle.base64.specs.Base64.{decode}
-use Rattle.frame.specs.Line.{marked, ended, textOf}
+use Rattle.frame.specs.Line.{longest, initial, partial, beginsWith, ended, textOf}
 use Rattle.reader.specs.declared.Reader.{Reader}
 use Rattle.reader.specs.declared.Reader.the-variants.{Idle}
 use Rattle.reader.specs.Reader.{Said, more, body, refused, Outcome, keeping, completed, absorb, begin, resume, begun, resumed, takeLine}
-use Rattle.roundtrip.specs.RoundTrip.{Run, saying, feed, Amid, over, next, noise, hearing, heard, NoiseStays}
+use Rattle.reader.specs.Lines.{Run, saying, feed, NoiseStays, Amid, over, next, noise, hearing, heard}
 
 -- an answer is refusal 2 or 3
 abbrev Loud : Said → Type 0
@@ -85,7 +85,7 @@ pub noise-stays : NoiseStays
 unfolding takeLine
 noise-stays line r p n =
     let t : Option (List ℕ) = decode (textOf line) in
-    stays r p (ltb 127 (length line)) (ltb (length line) 3) (not (ended line)) (marked 0x06 0x09 line) (marked 0x04 0x14 line)
+    stays r p (ltb longest (length line)) (ltb (length line) 3) (not (ended line)) (beginsWith initial line) (beginsWith partial line)
     (begun t []) (resumed t Idle []) (begun t p) (resumed t r p)
     (quiet-begun t []) (quiet-resumed t []) n
 

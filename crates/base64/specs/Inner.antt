@@ -1,0 +1,73 @@
+-- What the inner functions of the decoder and the encoder promise each other. Only the proofs need it: no promise to a caller cites it.
+-- Assumes nothing.
+use mathlib.Core.Path.{_≡_}
+use Prim.Native.Nat.{ℕ, _+_, _*_, _≤_, _<_}
+use mathlib.Core.Bool.{Bool, false}
+use mathlib.Core.List.{List, [], _∷_, _++_}
+use mathlib.Core.Option.{Option}
+use lib.ListN.{length, getD, take, drop}
+use Rattle.laws.specs.Choice.{pick}
+use Rattle.laws.specs.Bytes.{pasted}
+use Rattle.laws.specs.Table.{tab}
+use Rattle.base64.specs.Base64.{char, value, encode, full, three, final, ahead, decode}
+use Rattle.base64.specs.Contract.{bytesIn, kept}
+
+-- a list is the table of the numbers that bytes stand for
+abbrev pub Values : List ℕ → Type 0
+Values s = s ≡ tab value 0 256
+
+-- a list is the table of the characters of the numbers below 64
+abbrev pub Chars : List ℕ → Type 0
+Chars s = s ≡ tab char 0 64
+
+-- the four characters from i on stand for numbers
+abbrev pub fullAt : List ℕ → ℕ → Bool
+fullAt t i = full (getD t i 0) (getD t (i + 1) 0) (getD t (i + 2) 0) (getD t (i + 3) 0)
+
+-- their bytes
+abbrev pub threeAt : List ℕ → ℕ → List ℕ
+threeAt t i = three (getD t i 0) (getD t (i + 1) 0) (getD t (i + 2) 0) (getD t (i + 3) 0)
+
+-- the four characters from i on, read as the last group
+abbrev pub finalAt : List ℕ → ℕ → Option (List ℕ)
+finalAt t i = final (getD t i 0) (getD t (i + 1) 0) (getD t (i + 2) 0) (getD t (i + 3) 0)
+
+-- the promise of one group from i on, whose bytes go to place o: whether it is full, and its bytes where it is
+pub record Group (t : List ℕ) (i : ℕ) (d : List ℕ) (o : ℕ) (r : Bool) (e : List ℕ) : Type 0 where
+  pub verdict : r ≡ fullAt t i
+  pub bytes : e ≡ pasted d o (pick (fullAt t i) (threeAt t i) [])
+
+-- x are the bytes of the first g groups of a text, all full: what the text keeps and decodes to is x before that of the text after them
+pub record Passed (t : List ℕ) (g : ℕ) (x : List ℕ) : Type 0 where
+  pub size : length x ≡ 3 * g
+  pub keeps : kept t ≡ x ++ kept (drop (4 * g) t)
+  pub verdict : decode t ≡ ahead x (decode (drop (4 * g) t))
+
+-- the promise of the first n groups: how many are full before the first that is not, and their bytes
+pub record Groups (t : List ℕ) (n : ℕ) (d : List ℕ) (r : ℕ) (e : List ℕ) : Type 0 where
+  pub some-of : r ≤ n
+  pub found : List ℕ
+  pub passed : Passed t r found
+  pub bytes : e ≡ pasted d 0 found
+  pub stopped : r < n → fullAt t (4 * r) ≡ false
+
+-- the promise of a last group x, whose bytes go to place o: how many there are, none where it is at fault, and the bytes
+pub record Last (x : Option (List ℕ)) (d : List ℕ) (o r : ℕ) (e : List ℕ) : Type 0 where
+  pub count : r ≡ length (bytesIn x)
+  pub bytes : e ≡ pasted d o (bytesIn x)
+
+-- the text of the first n groups of three bytes
+abbrev pub headText : List ℕ → ℕ → List ℕ
+headText x n = encode (take (3 * n) x)
+
+-- the text of the three bytes from i on
+abbrev pub textOfThree : List ℕ → ℕ → List ℕ
+textOfThree x i = encode (getD x i 0 ∷ getD x (i + 1) 0 ∷ getD x (i + 2) 0 ∷ [])
+
+-- the text of a last byte
+abbrev pub textOfOne : ℕ → List ℕ
+textOfOne a = encode (a ∷ [])
+
+-- the text of the last two bytes
+abbrev pub textOfTwo : ℕ → ℕ → List ℕ
+textOfTwo a b = encode (a ∷ b ∷ [])
