@@ -6,27 +6,39 @@ use mathlib.Core.List.{List}
 use Prim.Native.Nat.{ℕ}
 use lib.ListN.{length, take, drop}
 use lib.Seq.{take-at}
+use Rattle.laws.specs.Bytes.{pasted}
 use Rattle.laws.proofs.Choice.{pick-yes}
 use Rattle.laws.proofs.Lists.{pasted-start}
-use Rattle.smp.specs.declared.Request.{Request}
+use Rattle.slot.specs.declared.Slot.{Slot}
+use Rattle.slot.specs.Session.{State}
 use Rattle.smp.specs.declared.Reading.{Reading}
+use Rattle.smp.specs.declared.Request.{Request}
 use Rattle.smp.specs.Packet.{headerIn}
 use Rattle.smp.specs.Request.{commandOf, requestOf, readRequest}
-use Rattle.smp.specs.Reply.{replyBytes}
-use Rattle.controller.specs.Doing.{replyFor}
-use Rattle.controller.specs.Handle.{Outcome, carried}
+use Rattle.controller.specs.Handle.{Outcome, Taking, request, taking, bytesBy, saidBy, handled}
 use Rattle.controller.specs.Calls.{Answered}
-use Rattle.controller.proofs.Laws.{handle-request}
+use Rattle.controller.proofs.Laws.{taking-request}
+
+-- what a call leaves that is taken as a request
+module _ (slot : Slot) (st : State) (p b : List ℕ) (r : Request) where
+  said-so : (t : Taking) → t ≡ request r
+      → handled slot st p b t .says ≡ saidBy (request r) (length (bytesBy slot st (handled slot st p b t .state) p (length b) (request r)))
+  unfolding handled
+  said-so t e = rw e refl
+
+  stands : (t : Taking) → t ≡ request r
+      → take (length (bytesBy slot st (handled slot st p b t .state) p (length b) (request r))) (handled slot st p b t .reply)
+      ≡ bytesBy slot st (handled slot st p b t .state) p (length b) (request r)
+  unfolding handled
+  stands t e = rw e (at-start (bytesBy slot st _ p (length b) (request r)))
+    where
+      at-start : (x : List ℕ) → take (length x) (pasted b 0 x) ≡ x
+      at-start x = ap (λ (m : List ℕ). take (length x) m) (pasted-start b x) ∙ take-at x (drop (length x) b) (length x) refl
 
 pub always-answered : Answered
-unfolding readRequest carried
+unfolding readRequest
 always-answered slot st p b h l e =
     let r = requestOf (commandOf (headerIn p)) p in
     let read : readRequest p ≡ Reading.Is r = rw (e, pick-yes) in
-    let x = replyBytes (headerIn p) p (replyFor slot (st .session) p r) (length b) in
-    let done = handle-request slot st p b r h l read in (
-      r,
-      read,
-      ap (λ (o : Outcome). o .says) done,
-      ap (λ (o : Outcome). take (length x) (o .reply)) done ∙ ap (λ (m : List ℕ). take (length x) m) (pasted-start b x) ∙ take-at x (drop (length x) b) (length x) refl,
-    )
+    let taken : taking slot st p b ≡ request r = taking-request slot st p b r h l read in
+    record { asks = r; read = read; says = said-so slot st p b r (taking slot st p b) taken; bytes = stands slot st p b r (taking slot st p b) taken }

@@ -1,91 +1,188 @@
--- The request call's definition at each way of its tests.
+-- The request call's definition at each way of its tests, and that every reply can be said.
 -- Assumes nothing.
-use mathlib.Core.Path.{_≡_, refl, sym, ap, ap₂, _∙_}
-use mathlib.Core.Bool.{true, false}
-use native.Mathlib.Omega.{arith}
+use mathlib.Core.Path.{_≡_, refl, sym, ap, ap₂, subst, _∙_}
+use mathlib.Core.Bool.{true, false, not}
 use mathlib.Core.List.{List}
-use Prim.Native.Nat.{ℕ, _≤_, _<_}
+use Prim.Native.Nat.{ℕ, _+_, _≤_, _<_}
+use native.Mathlib.Omega.{arith}
+use lib.Dec.{ltb, eqb}
 use lib.ListN.{length}
-use borrow.Author.Tests.{lt-ltb, le-ltb}
-use Rattle.laws.specs.Choice.{pick}
+use borrow.Author.Tests.{lt-ltb, le-ltb, not-false}
+use Rattle.laws.specs.declared.Number.{Number}
+use Rattle.laws.specs.Choice.{pick, both}
 use Rattle.laws.specs.Bytes.{pasted}
-use Rattle.laws.proofs.Choice.{pick-yes, pick-no, both-true}
+use Rattle.laws.proofs.Choice.{pick-yes, pick-no, pick-case, both-true}
+use Rattle.laws.proofs.Lists.{pasted-none}
 use Rattle.slot.specs.declared.Slot.{Slot}
-use Rattle.slot.specs.Session.{regionOk, sessionOk}
-use Rattle.slot.specs.Act.{State, done}
-use Rattle.slot.proofs.Laws.{Region, region-bounds}
+use Rattle.slot.specs.declared.Upload.{Upload}
+use Rattle.slot.specs.declared.Plan.{Plan}
+use Rattle.slot.specs.Session.{regionOk, sessionOk, State, possible}
+use Rattle.slot.specs.Plan.{above, largest, misSized, sameTag, planLater, planSized, planLength, planFirst, planOf}
+use Rattle.slot.specs.Act.{Act, done, actOf}
+use Rattle.slot.specs.History.{Fit}
+use Rattle.slot.proofs.Fit.{data-size, planned-fit}
+use Rattle.slot.proofs.Laws.{region-bounds, session-bounds}
 use Rattle.smp.specs.declared.Request.{Request}
 use Rattle.smp.specs.declared.Reading.{Reading}
 use Rattle.smp.specs.declared.Header.{Header}
 use Rattle.smp.specs.declared.Reply.{Reply}
 use Rattle.smp.specs.Packet.{headerIn}
 use Rattle.smp.specs.Request.{readRequest}
-use Rattle.smp.specs.Reply.{replyBytes, Written}
-use Rattle.smp.specs.Steps.{Sayable}
-use Rattle.smp.proofs.Sound.{echo-inside, request-sized}
-use Rattle.controller.specs.Doing.{uploadFrom, planFor, actFor, replyTo, replyFor, asksReset}
-use Rattle.controller.specs.Handle.{Said, replied, resetAsked, Outcome, keeping, possible, carried, answered, handle}
-use Rattle.controller.proofs.Small.{ReplySmall, reply-small}
+use Rattle.smp.specs.Reply.{replyBytes}
+use Rattle.smp.specs.Contract.{Written, Sayable}
+use Rattle.smp.proofs.Sound.{upload-inside, echo-inside, request-sized}
+use Rattle.controller.specs.Doing.{actFor, replyTo, replyFor, asksReset}
+use Rattle.controller.specs.Handle.{
+  Said,
+  replied,
+  resetAsked,
+  refused,
+  Outcome,
+  Taking,
+  refusal,
+  request,
+  asked,
+  taking,
+  actBy,
+  bytesBy,
+  saidBy,
+  handled,
+  handle,
+}
 
--- an impossible slot or record: refusal 1
-pub handle-impossible : (slot : Slot) (st : State) (p b : List ℕ) → possible slot st ≡ false → handle slot st p b ≡ keeping 1 st b
-unfolding handle
-handle-impossible slot st p b h = simp (h, pick-yes)
+-- a refusal leaves all as it was
+pub refused-all : (slot : Slot) (st : State) (p b : List ℕ) (n : ℕ) → handled slot st p b (refusal n) ≡ record { says = refused n; state = st; reply = b }
+unfolding handled actBy bytesBy saidBy done
+refused-all slot st p b n = ap (λ (l : List ℕ). record { says = refused n; state = st; reply = l }) (pasted-none b 0)
 
--- a short reply buffer: refusal 11
-pub handle-short : (slot : Slot) (st : State) (p b : List ℕ) → possible slot st ≡ true → length b < 32 → handle slot st p b ≡ keeping 11 st b
-unfolding handle
-handle-short slot st p b h l = simp (h, pick-no, lt-ltb _ _ l, pick-yes)
+module _ (slot : Slot) (st : State) (p b : List ℕ) where
+  -- an impossible slot or record: refusal 1
+  pub taking-impossible : possible slot st ≡ false → taking slot st p b ≡ refusal 1
+  unfolding taking
+  taking-impossible h = simp (h, pick-yes)
 
--- a packet that is no request: refusal 10
-pub handle-other : (slot : Slot) (st : State) (p b : List ℕ) → possible slot st ≡ true → 32 ≤ length b → readRequest p ≡ Reading.NotARequest → handle slot st p b ≡ keeping 10 st b
-unfolding handle answered
-handle-other slot st p b h l e = simp (h, pick-no, le-ltb _ _ l, e)
+  -- a short reply buffer: refusal 11
+  pub taking-short : possible slot st ≡ true → length b < 32 → taking slot st p b ≡ refusal 11
+  unfolding taking
+  taking-short h l = simp (h, pick-no, lt-ltb _ _ l, pick-yes)
 
--- a request: it is carried out
-pub handle-request : (slot : Slot) (st : State) (p b : List ℕ) (r : Request) → possible slot st ≡ true → 32 ≤ length b → readRequest p ≡ Reading.Is r → handle slot st p b ≡ carried slot st p b r
-unfolding handle answered
-handle-request slot st p b r h l e = simp (h, pick-no, le-ltb _ _ l, e)
+  -- a packet that is no request: refusal 10
+  pub taking-other : possible slot st ≡ true → 32 ≤ length b → readRequest p ≡ Reading.NotARequest → taking slot st p b ≡ refusal 10
+  unfolding taking asked
+  taking-other h l e = simp (h, pick-no, le-ltb _ _ l, e)
+
+  -- a request: it is carried out
+  pub taking-request : (r : Request) → possible slot st ≡ true → 32 ≤ length b → readRequest p ≡ Reading.Is r → taking slot st p b ≡ request r
+  unfolding taking asked
+  taking-request r h l e = simp (h, pick-no, le-ltb _ _ l, e)
+
+  -- a call that is refused leaves all as it was
+  pub handle-refused : (n : ℕ) → taking slot st p b ≡ refusal n → handle slot st p b ≡ record { says = refused n; state = st; reply = b }
+  handle-refused n e = ap (handled slot st p b) e ∙ refused-all slot st p b n
 
 -- a request carried out, from its parts: the state after its act and the reply that was written; with a reset asked, and without
-module _ (slot : Slot) (st : State) (p b : List ℕ) (r : Request) (h : Header) (meant : Reply) (n : ℕ) (b′ : List ℕ) (st′ : State)
-    (header : h ≡ headerIn p) (reply : meant ≡ replyFor slot (st .session) p r) (written : Written h p meant b n b′) (state : st′ ≡ done slot (actFor slot (st .session) p r) st) where
-  bytes-meant : replyBytes h p meant (length b) ≡ replyBytes (headerIn p) p (replyFor slot (st .session) p r) (length b)
-  bytes-meant = ap₂ (λ (k : Header) (m : Reply). replyBytes k p m (length b)) header reply
+module _ (slot : Slot) (st : State) (p b : List ℕ) (r : Request) (h : Header) (meant : Reply) (n : ℕ) (b′ : List ℕ) (after : State)
+    (header : h ≡ headerIn p) (state : after ≡ done slot (actFor slot st p r) st) (reply : meant ≡ replyFor slot st after p r)
+    (written : Written h p meant b n b′) where
+  -- the bytes that were written are those of the definition
+  bytes-meant : replyBytes h p meant (length b) ≡ bytesBy slot st (done slot (actFor slot st p r) st) p (length b) (request r)
+  unfolding bytesBy
+  bytes-meant =
+      ap₂ (λ (k : Header) (m : Reply). replyBytes k p m (length b)) header
+      (reply ∙ ap (λ (x : State). replyFor slot st x p r) state)
 
-  count-meant : n ≡ length (replyBytes (headerIn p) p (replyFor slot (st .session) p r) (length b))
-  count-meant = written .count ∙ ap length bytes-meant
+  -- all that the call leaves, by what it said
+  parts : (s : Said) → s ≡ saidBy (request r) (length (bytesBy slot st (done slot (actFor slot st p r) st) p (length b) (request r)))
+      → _≡_ {A = Outcome} (record { says = s; state = after; reply = b′ }) (handled slot st p b (request r))
+  unfolding handled actBy
+  parts s e = λ i. record { says = e i; state = state i; reply = (written .bytes ∙ ap (λ (x : List ℕ). pasted b 0 x) bytes-meant) i }
 
-  buffer-meant : b′ ≡ pasted b 0 (replyBytes (headerIn p) p (replyFor slot (st .session) p r) (length b))
-  buffer-meant = written .bytes ∙ ap (λ (x : List ℕ). pasted b 0 x) bytes-meant
+  -- a reset is asked
+  pub carried-reset : asksReset r ≡ true → _≡_ {A = Outcome} (record { says = resetAsked n; state = after; reply = b′ }) (handled slot st p b (request r))
+  unfolding saidBy
+  carried-reset e = parts (resetAsked n) (ap resetAsked (written .count ∙ ap length bytes-meant) ∙ sym (simp (e, pick-yes)))
 
-  parts : (said : Said) → said ≡ pick (asksReset r) (resetAsked (length (replyBytes (headerIn p) p (replyFor slot (st .session) p r) (length b)))) (replied (length (replyBytes (headerIn p) p (replyFor slot (st .session) p r) (length b))))
-      → _≡_ {A = Outcome} (record { says = said; state = st′; reply = b′ }) (carried slot st p b r)
-  unfolding carried
-  parts said e = λ i. record { says = e i; state = state i; reply = buffer-meant i }
+  -- no reset is asked
+  pub carried-plain : asksReset r ≡ false → _≡_ {A = Outcome} (record { says = replied n; state = after; reply = b′ }) (handled slot st p b (request r))
+  unfolding saidBy
+  carried-plain e = parts (replied n) (ap replied (written .count ∙ ap length bytes-meant) ∙ sym (simp (e, pick-no)))
 
-  pub carried-reset : asksReset r ≡ true → _≡_ {A = Outcome} (record { says = resetAsked n; state = st′; reply = b′ }) (carried slot st p b r)
-  carried-reset e = parts (resetAsked n) (ap resetAsked count-meant ∙ sym (simp (e, pick-yes)))
+-- a plan that tells an offset tells one of a slot
+abbrev TellSmall : Plan → Type 0
+TellSmall (Plan.Refuse why) = Unit {0}
+TellSmall (Plan.Tell n) = n ≤ 1048576
+TellSmall Plan.Append = Unit {0}
+TellSmall (Plan.Start l) = Unit {0}
 
-  pub carried-plain : asksReset r ≡ false → _≡_ {A = Outcome} (record { says = replied n; state = st′; reply = b′ }) (carried slot st p b r)
-  carried-plain e = parts (replied n) (ap replied count-meant ∙ sym (simp (e, pick-no)))
+-- an offset that is told is one of the slot
+module _ (slot : Slot) (st : State) (s : List ℕ) (u : Upload) (size : slot .size ≤ 1048576) (ok : sessionOk slot (st .session) ≡ true) where
+  -- an open session's place is in the slot
+  place-small : st .session .running ≡ true → st .session .place ≤ 1048576
+  place-small h = let b = session-bounds slot (st .session) ok h in omega arith
+
+  later-small : TellSmall (planLater st u)
+  unfolding planLater
+  later-small =
+      pick-case TellSmall (not (st .session .running)) (Plan.Tell 0) _ (λ e. omega arith)
+      (λ e. pick-case TellSmall (not (eqb (u .off) (st .session .place))) (Plan.Tell (st .session .place)) _
+      (λ f. place-small (not-false (st .session .running) e))
+      (λ f. pick-case TellSmall (ltb (st .session .length) (u .off + u .size)) _ Plan.Append (λ g. tt) (λ g. tt)))
+
+  -- a session whose tag is the request's is open
+  tag-small : sameTag st s (u .sha) ≡ true → st .session .place ≤ 1048576
+  unfolding sameTag
+  tag-small h = place-small (both-true (st .session .running) _ h .0)
+
+  sized-small : (l : ℕ) → TellSmall (planSized st s u l)
+  unfolding planSized
+  sized-small l =
+      pick-case TellSmall (ltb l (u .size)) _ _ (λ e. tt)
+      (λ e. pick-case TellSmall (both (sameTag st s (u .sha)) (not (eqb l (st .session .length)))) _ _ (λ f. tt)
+      (λ f. pick-case TellSmall (u .upgrade) _ _ (λ g. tt)
+      (λ g. pick-case TellSmall (sameTag st s (u .sha)) (Plan.Tell (st .session .place)) (Plan.Start l) (λ h. tag-small h) (λ h. tt))))
+
+  length-small : (n : Number) → TellSmall (planLength slot st s u n)
+  unfolding planLength
+  length-small Number.Absent = tt
+  length-small (Number.Is l) =
+      pick-case TellSmall (eqb l 0) _ _ (λ e. tt)
+      (λ e. pick-case TellSmall (ltb (slot .size) l) _ _ (λ f. tt)
+      (λ f. pick-case TellSmall (misSized (u .sha)) _ _ (λ g. tt) (λ g. sized-small l)))
+
+  told-small : TellSmall (planOf slot st s u)
+  unfolding planOf planFirst
+  told-small =
+      pick-case TellSmall (ltb largest (u .off)) _ _ (λ e. tt)
+      (λ e. pick-case TellSmall (above largest (u .length)) _ _ (λ f. tt)
+      (λ f. pick-case TellSmall (eqb (u .size) 0) _ _ (λ g. tt)
+      (λ g. pick-case TellSmall (ltb 0 (u .off)) (planLater st u) _ (λ h. later-small)
+      (λ h. pick-case TellSmall (above 0 (u .image)) _ _ (λ i. tt) (λ i. length-small (u .length))))))
+
+  -- so is the one that an upload request is answered
+  placed-small : (inside : u .start + u .size ≤ length s) → Sayable s (replyTo (planOf slot st s u) (done slot (actOf s u (planOf slot st s u)) st))
+  unfolding replyTo actOf done Fit
+  placed-small inside = go (planOf slot st s u) refl
+    where
+      fit : (q : Plan) → planOf slot st s u ≡ q → Fit slot (st .session) (actOf s u q)
+      fit q e = subst (λ (x : Plan). Fit slot (st .session) (actOf s u x)) e (planned-fit slot st s u inside)
+
+      go : (q : Plan) → planOf slot st s u ≡ q → Sayable s (replyTo q (done slot (actOf s u q) st))
+      go (Plan.Refuse why) e = tt
+      go (Plan.Tell n) e = let t : n ≤ 1048576 = subst TellSmall e told-small in omega arith
+      go Plan.Append e =
+          let f = fit Plan.Append e in
+          let b = session-bounds slot (st .session) ok (f .0) in
+          omega (arith, f .3)
+      go (Plan.Start l) e = let f = fit (Plan.Start l) e in omega (arith, f .1, f .2)
 
 -- a request that was read can be answered: its reply can be said
-pub reply-sayable : (slot : Slot) (st : State) (p : List ℕ) (r : Request) → possible slot st ≡ true → readRequest p ≡ Reading.Is r → Sayable p (replyFor slot (st .session) p r)
-unfolding replyFor uploadFrom
-reply-sayable slot st p (Request.Answer rc) h e = tt
+pub reply-sayable : (slot : Slot) (st : State) (p : List ℕ) (r : Request) → possible slot st ≡ true → readRequest p ≡ Reading.Is r
+    → Sayable p (replyFor slot st (done slot (actFor slot st p r) st) p r)
+unfolding replyFor actFor
+reply-sayable slot st p (Request.Answer why) h e = tt
 reply-sayable slot st p (Request.Echo start len) h e = (echo-inside p start len e, request-sized p (Request.Echo start len) e .1)
 reply-sayable slot st p Request.Reset h e = tt
-reply-sayable slot st p (Request.Upload c) h e = fits (replyTo (st .session) (c .size) (planFor slot (st .session) p c)) small
-  where
-    fits : (m : Reply) → ReplySmall m → Sayable p m
-    fits (Reply.Rc n) k = tt
-    fits (Reply.Placed n) k = omega arith
-    fits (Reply.Text start len) k = absurd k
-
-    oks : (regionOk slot (length (st .memory)) ≡ true) × (sessionOk slot (st .session) ≡ true)
-    oks = both-true (regionOk slot (length (st .memory))) (sessionOk slot (st .session)) h
-
-    small : ReplySmall (replyTo (st .session) (c .size) (planFor slot (st .session) p c))
-    small = reply-small slot (st .session) (uploadFrom p c) (region-bounds slot (length (st .memory)) (oks .0) .within) (oks .1)
+reply-sayable slot st p (Request.Upload u) h e =
+    let oks = both-true (regionOk slot (length (st .memory))) (sessionOk slot (st .session)) h in
+    placed-small slot st p u (region-bounds slot (length (st .memory)) (oks .0) .within) (oks .1) (upload-inside p u e .0)
 reply-sayable slot st p Request.Erase h e = tt

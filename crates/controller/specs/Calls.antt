@@ -1,52 +1,38 @@
--- Any history of request calls: one memory, one slot, the record handed back after each call. What is shown of the memory at every point.
+-- Any history of request calls: one memory, one slot, record and tag handed back after each call. What is shown of the memory at every point.
 -- Assumes nothing.
 use Prim.Native.Nat.{ℕ, zero, suc, _+_, _*_, _-_, _≤_}
 use mathlib.Core.Path.{_≡_}
-use mathlib.Core.Bool.{Bool, true, false, not}
+use mathlib.Core.Bool.{true, false}
 use mathlib.Core.List.{List, [], _∷_}
 use lib.Dec.{ltb}
 use lib.ListN.{length, take, drop, getD}
 use Rattle.laws.specs.Choice.{pick}
 use Rattle.slot.specs.declared.Slot.{Slot}
 use Rattle.slot.specs.declared.Session.{Session}
-use Rattle.slot.specs.Session.{regionOk, closed}
-use Rattle.slot.specs.Act.{State, Act}
-use Rattle.slot.specs.State.{stateOf}
-use Rattle.slot.specs.History.{History, Held, CutFrom, unbroken}
+use Rattle.slot.specs.Session.{regionOk, State, stateOf, possible, closedIn}
+use Rattle.slot.specs.Act.{Act}
+use Rattle.slot.specs.History.{Held, CutFrom, unbroken}
 use Rattle.smp.specs.declared.Reading.{Reading}
 use Rattle.smp.specs.declared.Request.{Request}
-use Rattle.smp.specs.Packet.{headerIn}
 use Rattle.smp.specs.Request.{readRequest, isRequest}
-use Rattle.smp.specs.Reply.{replyBytes}
-use Rattle.controller.specs.Doing.{actFor, replyFor, asksReset}
-use Rattle.controller.specs.Handle.{replied, resetAsked, possible, handle}
+use Rattle.controller.specs.Handle.{request, taking, actBy, bytesBy, saidBy, handle}
 
 -- one call's packet and reply buffer
 pub record Call : Type 0 where
   pub packet : List ℕ
   pub buffer : List ℕ
 
--- memory and session after calls, the newest first
+-- memory, session and tag after calls, the newest first
 unfoldable pub after : Slot → State → List Call → State
 after slot first [] = first
 after slot first (c ∷ calls) = handle slot (after slot first calls) (c .packet) (c .buffer) .state
 
--- the act of a packet that was read
-unfoldable pub actRead : Slot → State → List ℕ → Reading → Act
-actRead slot st p Reading.NotARequest = Act.keep
-actRead slot st p (Reading.Is r) = actFor slot (st .session) p r
-
--- what one call does to memory and session
-unfoldable pub actOn : Slot → State → Call → Act
-actOn slot st c =
-    pick (not (possible slot st)) Act.keep
-    (pick (ltb (length (c .buffer)) 32) Act.keep
-    (actRead slot st (c .packet) (readRequest (c .packet))))
-
 -- what calls did, the newest first
 unfoldable pub actsOf : Slot → State → List Call → List Act
 actsOf slot first [] = []
-actsOf slot first (c ∷ calls) = actOn slot (after slot first calls) c ∷ actsOf slot first calls
+actsOf slot first (c ∷ calls) =
+    let st : State = after slot first calls in
+    actBy slot st (c .packet) (taking slot st (c .packet) (c .buffer)) ∷ actsOf slot first calls
 
 -- the demand, for any list of packets: at every point, what `Held` says
 abbrev pub PacketDemand : Type 0
@@ -57,7 +43,8 @@ PacketDemand =
 -- the demand's last sentence, for packets
 abbrev pub PacketUnbroken : Type 0
 PacketUnbroken =
-    (slot : Slot) (first : State) (calls : List Call) (image : List ℕ) → regionOk slot (length (first .memory)) ≡ true → first .session .running ≡ false
+    (slot : Slot) (first : State) (calls : List Call) (image : List ℕ) → regionOk slot (length (first .memory)) ≡ true
+    → first .session .running ≡ false
     → after slot first calls .session .running ≡ true
     → CutFrom image (actsOf slot first calls)
     → after slot first calls .memory ≡ unbroken slot (first .memory) image (after slot first calls .session .place)
@@ -87,20 +74,22 @@ callsFrom slot first run b (suc n) at calls =
 abbrev pub callsOf : Slot → State → List ℕ → List ℕ → List Call
 callsOf slot first run b = callsFrom slot first run b (length run) 0 []
 
--- what a run of packets leaves, from a closed session on: memory, session and reply buffer as after its calls; and where the slot lies in the
+-- what a run of packets leaves, from a closed session on: the state and the reply buffer as after its calls; and where the slot lies in the
 -- memory, the demand holds of them
-abbrev pub Ran : Slot → List ℕ → List ℕ → List ℕ → List ℕ → Session → List ℕ → Type 0
-Ran slot m run b m′ s b′ =
-    (stateOf m′ s ≡ after slot (stateOf m closed) (callsOf slot (stateOf m closed) run b))
-    × (b′ ≡ bufferAfter slot (stateOf m closed) b (callsOf slot (stateOf m closed) run b))
-    × (regionOk slot (length m) ≡ true → Held slot (stateOf m closed) (actsOf slot (stateOf m closed) (callsOf slot (stateOf m closed) run b)) (stateOf m′ s))
+pub record Ran (slot : Slot) (m run b m′ tag′ : List ℕ) (s : Session) (b′ : List ℕ) : Type 0 where
+  pub state : stateOf m′ tag′ s ≡ after slot (closedIn m) (callsOf slot (closedIn m) run b)
+  pub buffer : b′ ≡ bufferAfter slot (closedIn m) b (callsOf slot (closedIn m) run b)
+  pub held : regionOk slot (length m) ≡ true → Held slot (closedIn m) (actsOf slot (closedIn m) (callsOf slot (closedIn m) run b)) (stateOf m′ tag′ s)
 
--- "every request is answered": a request, with a possible slot and session and a reply buffer of 32 bytes or more, gets a reply, whose bytes are
--- those of its reply's meaning, in the form that 01 gives it
+-- "every request is answered": a request, with a possible slot and session and a reply buffer of 32 bytes or more, gets a reply, whose bytes
+-- are those of its reply's meaning, in the form that 01 gives it
+pub record AnsweredBy (slot : Slot) (st : State) (p b : List ℕ) : Type 0 where
+  pub asks : Request
+  pub read : readRequest p ≡ Reading.Is asks
+  pub says : handle slot st p b .says
+      ≡ saidBy (request asks) (length (bytesBy slot st (handle slot st p b .state) p (length b) (request asks)))
+  pub bytes : take (length (bytesBy slot st (handle slot st p b .state) p (length b) (request asks))) (handle slot st p b .reply)
+      ≡ bytesBy slot st (handle slot st p b .state) p (length b) (request asks)
+
 abbrev pub Answered : Type 0
-Answered =
-    (slot : Slot) (st : State) (p b : List ℕ) → possible slot st ≡ true → 32 ≤ length b → isRequest p ≡ true
-    → (r : Request)
-    × (readRequest p ≡ Reading.Is r)
-    × (handle slot st p b .says ≡ pick (asksReset r) (resetAsked (length (replyBytes (headerIn p) p (replyFor slot (st .session) p r) (length b)))) (replied (length (replyBytes (headerIn p) p (replyFor slot (st .session) p r) (length b)))))
-    × (take (length (replyBytes (headerIn p) p (replyFor slot (st .session) p r) (length b))) (handle slot st p b .reply) ≡ replyBytes (headerIn p) p (replyFor slot (st .session) p r) (length b))
+Answered = (slot : Slot) (st : State) (p b : List ℕ) → possible slot st ≡ true → 32 ≤ length b → isRequest p ≡ true → AnsweredBy slot st p b

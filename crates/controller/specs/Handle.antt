@@ -1,18 +1,17 @@
--- The request call: what it says, and what becomes of session, memory and reply buffer, for every input. "Request order: 1, 11, 10, then rc
--- 8, rc 3, then the command's own rules."
+-- The request call: what it says, and what becomes of memory, session, tag and reply buffer, for every input. "Request order: 1, 11, 10, then
+-- rc 8, rc 3, then the command's own rules."
 -- Assumes nothing.
 use Prim.Native.Nat.{ℕ}
-use mathlib.Core.Bool.{Bool, not}
-use mathlib.Core.List.{List}
+use mathlib.Core.Bool.{not}
+use mathlib.Core.List.{List, []}
 use lib.Dec.{ltb}
 use lib.ListN.{length}
-use Rattle.laws.specs.Choice.{pick, both}
+use Rattle.laws.specs.Choice.{pick}
 use Rattle.laws.specs.Bytes.{pasted}
 use Rattle.refusal.specs.Number.{numberOf}
 use Rattle.slot.specs.declared.Slot.{Slot}
-use Rattle.slot.specs.declared.Session.{Session}
-use Rattle.slot.specs.Session.{regionOk, sessionOk}
-use Rattle.slot.specs.Act.{State, done}
+use Rattle.slot.specs.Session.{State, stateOf, possible}
+use Rattle.slot.specs.Act.{Act, done}
 use Rattle.smp.specs.declared.Request.{Request}
 use Rattle.smp.specs.declared.Reading.{Reading}
 use Rattle.smp.specs.Packet.{headerIn}
@@ -35,42 +34,55 @@ said (Replied n) = replied n
 said (ResetAsked n) = resetAsked n
 said (Refused r) = refused (numberOf r)
 
--- all that a call leaves: what it said, memory and session, and the reply buffer
+-- all that a call leaves: what it said, memory with session and tag, and the reply buffer
 pub record Outcome : Type 0 where
   pub says : Said
   pub state : State
   pub reply : List ℕ
 
--- the outcome of a call that gave h, and left m in the memory and b in the reply buffer
-abbrev pub outcome : Handled → List ℕ → List ℕ → Outcome
-outcome h m b = record { says = said (h .answer); state = record { memory = m; session = h .session }; reply = b }
+-- the outcome of a call that gave h, and left m in the memory, tag in the tag and b in the reply buffer
+abbrev pub outcome : Handled → List ℕ → List ℕ → List ℕ → Outcome
+outcome h m tag b = record { says = said (h .answer); state = stateOf m tag (h .session); reply = b }
 
--- a refusal leaves all as it was
-abbrev pub keeping : ℕ → State → List ℕ → Outcome
-keeping n st b = record { says = refused n; state = st; reply = b }
+-- how a call is taken: refused by this number, or as this request
+pub data Taking : Type 0 where
+  refusal : ℕ → Taking
+  request : Request → Taking
 
--- the slot's region and the session record are possible
-abbrev pub possible : Slot → State → Bool
-possible slot st = both (regionOk slot (length (st .memory))) (sessionOk slot (st .session))
+-- a packet that was read: refusal 10, or the request
+unfoldable pub asked : Reading → Taking
+asked Reading.NotARequest = refusal 10
+asked (Reading.Is r) = request r
 
--- a request carried out: its act is done, and its reply stands at the buffer's start
-unfoldable pub carried : Slot → State → List ℕ → List ℕ → Request → Outcome
-carried slot st p b r =
-    let x : List ℕ = replyBytes (headerIn p) p (replyFor slot (st .session) p r) (length b) in
-    record {
-      says = pick (asksReset r) (resetAsked (length x)) (replied (length x));
-      state = done slot (actFor slot (st .session) p r) st;
-      reply = pasted b 0 x;
-    }
+-- the refusals in their order: 1, 11, 10
+unfoldable pub taking : Slot → State → List ℕ → List ℕ → Taking
+taking slot st p b =
+    pick (not (possible slot st)) (refusal 1)
+    (pick (ltb (length b) 32) (refusal 11)
+    (asked (readRequest p)))
 
--- a packet that was read: refusal 10, or the request carried out
-unfoldable pub answered : Slot → State → List ℕ → List ℕ → Reading → Outcome
-answered slot st p b Reading.NotARequest = keeping 10 st b
-answered slot st p b (Reading.Is r) = carried slot st p b r
+-- what is done to memory, session and tag: nothing at a refusal
+unfoldable pub actBy : Slot → State → List ℕ → Taking → Act
+actBy slot st p (refusal n) = Act.keep
+actBy slot st p (request r) = actFor slot st p r
+
+-- the reply's bytes, in a buffer of so many: none at a refusal
+unfoldable pub bytesBy : Slot → State → State → List ℕ → ℕ → Taking → List ℕ
+bytesBy slot st after p room (refusal n) = []
+bytesBy slot st after p room (request r) = replyBytes (headerIn p) p (replyFor slot st after p r) room
+
+-- what is said, with a reply of so many bytes
+unfoldable pub saidBy : Taking → ℕ → Said
+saidBy (refusal n) size = refused n
+saidBy (request r) size = pick (asksReset r) (resetAsked size) (replied size)
+
+-- the call, by how it is taken: its act is done, and the reply to the state after stands at the buffer's start
+unfoldable pub handled : Slot → State → List ℕ → List ℕ → Taking → Outcome
+handled slot st p b t =
+    let after : State = done slot (actBy slot st p t) st in
+    let x : List ℕ = bytesBy slot st after p (length b) t in
+    record { says = saidBy t (length x); state = after; reply = pasted b 0 x }
 
 -- the request call
-unfoldable pub handle : Slot → State → List ℕ → List ℕ → Outcome
-handle slot st p b =
-    pick (not (possible slot st)) (keeping 1 st b)
-    (pick (ltb (length b) 32) (keeping 11 st b)
-    (answered slot st p b (readRequest p)))
+abbrev pub handle : Slot → State → List ℕ → List ℕ → Outcome
+handle slot st p b = handled slot st p b (taking slot st p b)

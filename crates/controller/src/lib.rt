@@ -2,23 +2,22 @@
 use refusal::Refusal;
 use slot::Plan;
 use slot::Session;
-use slot::Sha;
 use slot::Slot;
 use slot::Upload;
-use smp::Chunk;
 use smp::Reading;
 use smp::Reply;
 use smp::Request;
 ghost use mathlib.Core.Path.{_≡_};
 ghost use mathlib.Core.Bool.{true};
-ghost use Prim.Native.Nat.{_+_, _-_, _≤_};
+ghost use mathlib.Core.List.{List};
+ghost use Prim.Native.Nat.{ℕ, _+_, _-_, _≤_};
 ghost use lib.ListN.{length, take, drop};
-ghost use Rattle.slot.specs.Plan.{whole};
-ghost use Rattle.slot.specs.State.{stateOf};
+ghost use Rattle.laws.specs.Parts.{partOf, Within};
+ghost use Rattle.slot.specs.Session.{stateOf, possible};
 ghost use Rattle.smp.specs.Request.{readRequest};
-ghost use Rattle.controller.specs.Doing.{tagFrom, uploadFrom, replyTo, asksReset};
-ghost use Rattle.controller.specs.Handle.{outcome, possible, carried, handle};
-ghost use Rattle.controller.specs.Carried.{Carried};
+ghost use Rattle.controller.specs.Doing.{replyTo, asksReset};
+ghost use Rattle.controller.specs.Handle.{Taking, outcome, handled, handle};
+ghost use Rattle.controller.specs.Contract.{Carried};
 ghost use Rattle.controller.specs.Calls.{Ran};
 
 // What the request call says.
@@ -43,85 +42,56 @@ pub struct Done {
     pub session: Session,
 }
 
-// The tag of an upload request: its 32 bytes of the packet, or zeros where it has none.
-fn tag_of(packet: &[u8], sha: Sha, at: usize) -> [u8; 32]
-    requires { ⌜ (whole sha ≡ true → at + 32 ≤ length (now packet)) ⌝ }
-    ensures { λ r. ⌜ r ≡ tagFrom (now (packet .entry)) sha at ⌝ }
-{
-    let mut tag = [0u8; 32];
-    match sha {
-        Sha::Absent => {
-            return tag;
-        }
-        Sha::OtherLength => {
-            return tag;
-        }
-        Sha::Whole => {
-            let end = at + 32;
-            bytes::copy(&packet[at..end], &mut tag);
-            return tag;
-        }
-    }
-}
-
-// An upload request in the slot's terms.
-fn upload_from(packet: &[u8], chunk: Chunk) -> Upload
-    requires { ⌜ (whole (chunk .sha) ≡ true → chunk .«tag_at» + 32 ≤ length (now packet)) ⌝ }
-    ensures { λ r. ⌜ r ≡ uploadFrom (now (packet .entry)) chunk ⌝ }
-{
-    let sha = chunk.sha;
-    let tag = tag_of(packet, sha, chunk.tag_at);
-    let length = chunk.length;
-    let image = chunk.image;
-    Upload {
-        off: chunk.off,
-        size: chunk.size,
-        length,
-        image,
-        sha,
-        tag,
-        upgrade: chunk.upgrade,
-    }
-}
-
-// The reply to an upload request that comes to a plan.
-fn reply_to(session: Session, size: usize, plan: Plan) -> Reply
-    requires { ⌜ (plan ≡ Plan.Append → session .place + size ≤ 1048576) ⌝ }
-    ensures { λ r. ⌜ r ≡ replyTo session size plan ⌝ }
+// The reply to an upload request that came to a plan and left this session.
+fn reply_to(plan: Plan, after: Session) -> Reply
+    ensures { λ r. ⌜ ((m tag : List ℕ) → r ≡ replyTo plan (stateOf m tag after)) ⌝ }
 {
     match plan {
-        Plan::Refuse(rc) => Reply::Rc(rc),
+        Plan::Refuse(why) => Reply::Refused(why),
         Plan::Tell(n) => Reply::Placed(n),
-        Plan::Append => Reply::Placed(session.place + size),
-        Plan::Start(_) => Reply::Placed(size),
+        Plan::Append => Reply::Placed(after.place),
+        Plan::Start(_) => Reply::Placed(after.place),
     }
 }
 
 // An upload request is planned and carried out on the memory.
-fn do_upload(slot: Slot, session: Session, memory: &mut [u8], packet: &[u8], chunk: Chunk) -> Done
-    requires { ⌜ (possible slot (stateOf (now memory) session) ≡ true) × (chunk .start + chunk .size ≤ length (now packet)) × (whole (chunk .sha) ≡ true → chunk .«tag_at» + 32 ≤ length (now packet)) ⌝ }
-    ensures { λ r. ⌜ Carried slot (stateOf (now (memory .entry)) session) (now (packet .entry)) (Request.Upload chunk) r (now (memory .exit)) ⌝ }
+fn do_upload(
+    slot: Slot,
+    session: Session,
+    tag: &mut [u8; 32],
+    memory: &mut [u8],
+    packet: &[u8],
+    upload: Upload,
+) -> Done
+    requires { ⌜ possible slot (stateOf (now memory) (now tag) session) ≡ true ⌝ }
+    requires { ⌜ (upload .start + upload .size ≤ length (now packet)) × Within (now packet) (upload .sha) ⌝ }
+    ensures { λ r. ⌜ Carried slot (stateOf (now (memory .entry)) (now (tag .entry)) session) (now (packet .entry)) (Request.Upload upload) r (now (memory .exit)) (now (tag .exit)) ⌝ }
 {
-    let upload = upload_from(packet, chunk);
-    let plan = slot::plan_upload(slot, session, upload);
-    let reply = reply_to(session, chunk.size, plan);
-    let start = chunk.start;
-    let end = start + chunk.size;
-    let after = slot::carry_out(slot, session, upload, plan, memory, &packet[start..end]);
+    let plan = slot::plan_upload(slot, session, tag, packet, upload);
+    let after = slot::carry_out(slot, session, tag, memory, packet, upload, plan);
+    let reply = reply_to(plan, after);
     Done {
         reply,
         session: after,
     }
 }
 
-// A request is carried out on the memory and the session.
-fn carry(slot: Slot, session: Session, memory: &mut [u8], packet: &[u8], request: Request) -> Done
-    requires { ⌜ (possible slot (stateOf (now memory) session) ≡ true) × (readRequest (now packet) ≡ Reading.Is request) ⌝ }
-    ensures { λ r. ⌜ Carried slot (stateOf (now (memory .entry)) session) (now (packet .entry)) request r (now (memory .exit)) ⌝ }
+// A request is carried out on memory, session and tag.
+fn carry(
+    slot: Slot,
+    session: Session,
+    tag: &mut [u8; 32],
+    memory: &mut [u8],
+    packet: &[u8],
+    request: Request,
+) -> Done
+    requires { ⌜ possible slot (stateOf (now memory) (now tag) session) ≡ true ⌝ }
+    requires { ⌜ readRequest (now packet) ≡ Reading.Is request ⌝ }
+    ensures { λ r. ⌜ Carried slot (stateOf (now (memory .entry)) (now (tag .entry)) session) (now (packet .entry)) request r (now (memory .exit)) (now (tag .exit)) ⌝ }
 {
     match request {
-        Request::Answer(rc) => Done {
-            reply: Reply::Rc(rc),
+        Request::Answer(why) => Done {
+            reply: Reply::Refused(why),
             session,
         },
         Request::Echo { start, len } => Done {
@@ -130,16 +100,17 @@ fn carry(slot: Slot, session: Session, memory: &mut [u8], packet: &[u8], request
         },
         Request::Reset => {
             let after = slot::closed_session();
+            *tag = [0u8; 32];
             Done {
-                reply: Reply::Rc(0),
+                reply: Reply::Done,
                 session: after,
             }
         }
-        Request::Upload(chunk) => do_upload(slot, session, memory, packet, chunk),
+        Request::Upload(upload) => do_upload(slot, session, tag, memory, packet, upload),
         Request::Erase => {
-            let after = slot::erase(slot, memory);
+            let after = slot::erase(slot, tag, memory);
             Done {
-                reply: Reply::Rc(0),
+                reply: Reply::Done,
                 session: after,
             }
         }
@@ -163,15 +134,18 @@ fn asks_reset(request: Request) -> bool
 fn respond(
     slot: Slot,
     session: Session,
+    tag: &mut [u8; 32],
     memory: &mut [u8],
     packet: &[u8],
     request: Request,
     reply: &mut [u8],
 ) -> Handled
-    requires { ⌜ (possible slot (stateOf (now memory) session) ≡ true) × (32 ≤ length (now reply)) × (readRequest (now packet) ≡ Reading.Is request) ⌝ }
-    ensures { λ r. ⌜ outcome r (now (memory .exit)) (now (reply .exit)) ≡ carried slot (stateOf (now (memory .entry)) session) (now (packet .entry)) (now (reply .entry)) request ⌝ }
+    requires { ⌜ possible slot (stateOf (now memory) (now tag) session) ≡ true ⌝ }
+    requires { ⌜ 32 ≤ length (now reply) ⌝ }
+    requires { ⌜ readRequest (now packet) ≡ Reading.Is request ⌝ }
+    ensures { λ r. ⌜ outcome r (now (memory .exit)) (now (tag .exit)) (now (reply .exit)) ≡ handled slot (stateOf (now (memory .entry)) (now (tag .entry)) session) (now (packet .entry)) (now (reply .entry)) (Taking.request request) ⌝ }
 {
-    let done = carry(slot, session, memory, packet, request);
+    let done = carry(slot, session, tag, memory, packet, request);
     let after = done.session;
     let meant = done.reply;
     let header = smp::header_in(packet);
@@ -189,15 +163,16 @@ fn respond(
 }
 
 // Takes one request packet: the slot is written as the upload rules say, and a reply stands at the reply buffer's start; or a refusal, and
-// nothing changes. Gives the session record for the next call.
+// nothing changes. Gives the session record for the next call; its tag stands beside it.
 pub fn handle_packet(
     slot: Slot,
     session: Session,
+    tag: &mut [u8; 32],
     memory: &mut [u8],
     packet: &[u8],
     reply: &mut [u8],
 ) -> Handled
-    ensures { λ r. ⌜ outcome r (now (memory .exit)) (now (reply .exit)) ≡ handle slot (stateOf (now (memory .entry)) session) (now (packet .entry)) (now (reply .entry)) ⌝ }
+    ensures { λ r. ⌜ outcome r (now (memory .exit)) (now (tag .exit)) (now (reply .exit)) ≡ handle slot (stateOf (now (memory .entry)) (now (tag .entry)) session) (now (packet .entry)) (now (reply .entry)) ⌝ }
 {
     if !slot::possible(slot, session, memory.len()) {
         return Handled {
@@ -218,13 +193,14 @@ pub fn handle_packet(
             session,
         };
     };
-    respond(slot, session, memory, packet, request, reply)
+    respond(slot, session, tag, memory, packet, request, reply)
 }
 
 // One packet of a run, taken: the session record after it.
 fn handle_next(
     slot: Slot,
     session: Session,
+    tag: &mut [u8; 32],
     memory: &mut [u8],
     run: &[u8],
     at: usize,
@@ -232,18 +208,26 @@ fn handle_next(
     reply: &mut [u8],
 ) -> Session
     requires { ⌜ (at ≤ end) × (end ≤ length (now run)) ⌝ }
-    ensures { λ r. ⌜ (stateOf (now (memory .exit)) r ≡ handle slot (stateOf (now (memory .entry)) session) (take (end - at) (drop at (now (run .entry)))) (now (reply .entry)) .state) × (now (reply .exit) ≡ handle slot (stateOf (now (memory .entry)) session) (take (end - at) (drop at (now (run .entry)))) (now (reply .entry)) .reply) ⌝ }
+    ensures { λ r. ⌜ stateOf (now (memory .exit)) (now (tag .exit)) r ≡ handle slot (stateOf (now (memory .entry)) (now (tag .entry)) session) (partOf (now (run .entry)) at (end - at)) (now (reply .entry)) .state ⌝ }
+    ensures { λ _. ⌜ now (reply .exit) ≡ handle slot (stateOf (now (memory .entry)) (now (tag .entry)) session) (partOf (now (run .entry)) at (end - at)) (now (reply .entry)) .reply ⌝ }
 {
-    let handled = handle_packet(slot, session, memory, &run[at..end], reply);
+    let handled = handle_packet(slot, session, tag, memory, &run[at..end], reply);
     handled.session
 }
 
 // Takes a run of packets from a closed session on, each behind its length in two bytes, the high one first, as far as they are whole. Gives
 // the session record after the last, and leaves what the calls left. What every history of packets keeps, it keeps.
-pub fn handle_run(slot: Slot, memory: &mut [u8], run: &[u8], reply: &mut [u8]) -> Session
-    ensures { λ r. ⌜ Ran slot (now (memory .entry)) (now (run .entry)) (now (reply .entry)) (now (memory .exit)) r (now (reply .exit)) ⌝ }
+pub fn handle_run(
+    slot: Slot,
+    tag: &mut [u8; 32],
+    memory: &mut [u8],
+    run: &[u8],
+    reply: &mut [u8],
+) -> Session
+    ensures { λ r. ⌜ Ran slot (now (memory .entry)) (now (run .entry)) (now (reply .entry)) (now (memory .exit)) (now (tag .exit)) r (now (reply .exit)) ⌝ }
 {
     let mut session = slot::closed_session();
+    *tag = [0u8; 32];
     let mut at = 0;
     while 2 <= run.len() - at {
         let size = laws::wide(run[at]) * 256 + laws::wide(run[at + 1]);
@@ -252,7 +236,7 @@ pub fn handle_run(slot: Slot, memory: &mut [u8], run: &[u8], reply: &mut [u8]) -
             return session;
         }
         let end = start + size;
-        session = handle_next(slot, session, memory, run, start, end, reply);
+        session = handle_next(slot, session, tag, memory, run, start, end, reply);
         at = end;
     }
     session

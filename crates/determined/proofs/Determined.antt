@@ -18,7 +18,15 @@ use Rattle.host.specs.declared.Written.{Written}
 use Rattle.host.specs.Write as writing
 use Rattle.host.specs.declared.Heard.{Heard}
 use Rattle.host.specs.Read as hearing
-use Rattle.determined.specs.Determined.{Determines, LineDetermined, FrameDetermined, ConfiguredDetermined, HandledDetermined, WrittenDetermined, HeardDetermined}
+use Rattle.determined.specs.Determined.{
+  Determines,
+  LineDetermined,
+  FrameDetermined,
+  ConfiguredDetermined,
+  HandledDetermined,
+  WrittenDetermined,
+  HeardDetermined,
+}
 
 -- what leads back determines
 pub by-return : {A O : Type 0} (f : A → O) (back : O → A) → ((a : A) → back (f a) ≡ a) → Determines f
@@ -81,9 +89,10 @@ unhandled-said (handling-answer.Answer.Refused r) = ap handling-answer.Answer.Re
 
 pub handled-determined : HandledDetermined
 handled-determined =
-    by-return (λ x. handling.outcome (x .0) (x .1) (x .2))
-    (λ o. (record { answer = unhandled (o .says); session = o .state .session }, o .state .memory, o .reply))
-    (λ x. ap {A = handling-answer.Answer} {B = Handled × List ℕ × List ℕ} (λ a. (record { answer = a; session = x .0 .session }, x .1, x .2)) (unhandled-said (x .0 .answer)))
+    by-return (λ x. handling.outcome (x .0) (x .1) (x .2) (x .3))
+    (λ o. (record { answer = unhandled (o .says); session = o .state .session }, o .state .memory, o .state .tag, o .reply))
+    (λ x. ap {A = handling-answer.Answer} {B = Handled × List ℕ × List ℕ × List ℕ}
+    (λ a. (record { answer = a; session = x .0 .session }, x .1, x .2, x .3)) (unhandled-said (x .0 .answer)))
 
 -- what a writer gave, from what it said
 abbrev unwritten : writing.Told → Written
@@ -96,7 +105,8 @@ unwritten-told (Written.Refused r) = ap Written.Refused (number-back r)
 
 pub written-determined : WrittenDetermined
 written-determined =
-    by-return (λ x. writing.outcome (x .0) (x .1)) (λ o. (unwritten (o .says), o .buffer)) (λ x. ap {A = Written} {B = Written × List ℕ} (λ w. (w, x .1)) (unwritten-told (x .0)))
+    by-return (λ x. writing.outcome (x .0) (x .1)) (λ o. (unwritten (o .says), o .buffer))
+    (λ x. ap {A = Written} {B = Written × List ℕ} (λ w. (w, x .1)) (unwritten-told (x .0)))
 
 -- what the reply reader gave, from what it said
 abbrev unheard : hearing.Said → Heard

@@ -3,47 +3,46 @@
 -- Assumes nothing.
 use mathlib.Core.Path.{_≡_, refl, sym, subst, ap, ap₂, _∙_}
 use mathlib.Core.Bool.{Bool, true, false, not}
-use mathlib.Core.List.{List, _++_}
+use mathlib.Core.List.{List, [], _∷_, _++_}
+use mathlib.Core.Option.{Option, some}
 use Prim.Native.Nat.{ℕ, _+_, _^_, _≤_, _<_}
 use native.Mathlib.Decide.{decLe}
 use native.Mathlib.Omega.{arith}
 use lib.Dec.{ltb, eqb, lit<}
 use lib.ListN.{length, take, drop, length-take, length-drop}
 use borrow.Author.Tests.{eq-eqb, ne-eqb, le-ltb, ltb-false}
+use Rattle.laws.specs.declared.Number.{Number}
+use Rattle.laws.specs.declared.Run.{Run}
 use Rattle.laws.specs.Choice.{pick, both}
 use Rattle.laws.specs.Bytes.{Bytes, ofBe16}
+use Rattle.laws.specs.Parts.{bytesIn, isThere}
 use Rattle.laws.proofs.Choice.{pick-yes, pick-no, both-true}
 use Rattle.laws.proofs.Lists.{bytes-drop}
+use Rattle.reason.specs.Rc.{rcOf}
+use Rattle.reason.proofs.Byte.{rc-byte}
 use Rattle.cbor.specs.declared.Value.{Value}
 use Rattle.cbor.specs.declared.Value.the-variants.{Unsigned}
 use Rattle.cbor.specs.Write.{textOf, mapOf}
 use Rattle.map.specs.declared.Kind.{Kind}
 use Rattle.map.specs.declared.Key.{Key}
-use Rattle.map.specs.declared.Field.the-variants.{Is}
-use Rattle.map.specs.declared.Fields.{Fields}
-use Rattle.map.specs.declared.Walked.{Walked}
-use Rattle.map.specs.declared.Walked.the-variants.{Map}
 use Rattle.map.specs.Keys.{nameD, nameR}
-use Rattle.map.specs.Walk.{withField, mapFrom}
-use Rattle.slot.specs.declared.Number.{Number}
-use Rattle.slot.specs.declared.Sha.{Sha}
+use Rattle.map.specs.Fields.{indexOf, flagNumber, firstOf, secondOf, stored, numberIn, runIn, flagIn}
+use Rattle.map.specs.Walk.{mapFrom}
+use Rattle.slot.specs.declared.Upload.{Upload}
 use Rattle.slot.specs.Plan.{above, largest}
 use Rattle.smp.specs.declared.Header.{Header}
 use Rattle.smp.specs.declared.Command.{Command}
-use Rattle.smp.specs.declared.Run.{Run}
-use Rattle.smp.specs.declared.Chunk.{Chunk}
 use Rattle.smp.specs.declared.Request.{Request}
 use Rattle.smp.specs.declared.Reading.{Reading}
 use Rattle.smp.specs.declared.Reply.{Reply as Answered}
 use Rattle.smp.specs.Packet.{headerIn, sized, headerBytes}
-use Rattle.smp.specs.Request.{commandOf, numberIn, runIn, flagIn, shaOf, tagAt, echoOf, echoIn, resetIn, eraseOf, eraseIn, uploadOf, uploadIn, requestOf, isRequest, readRequest}
-use Rattle.smp.specs.Reply.{replyMap, replyHeader, replyPacket}
-use Rattle.smp.specs.Steps.{chunkOf}
+use Rattle.smp.specs.Request.{commandOf, mapped, echoWith, eraseWith, uploadWith, uploadOf, requestOf, isRequest, readRequest}
+use Rattle.smp.specs.Reply.{rcMap, replyMap, replyHeader, replyPacket}
 use Rattle.smp.proofs.Headers.{header-length, header-back, sized-back}
 use Rattle.smp.proofs.Writing.{text-map}
 use Rattle.host.specs.Write.{requestHeader, requestPacket, echoMap, laterMap, firstMap, misSized, Outcome, packet, unsendable, put, writeEcho, writeReset, writeErase, writeFirst, writeUpload}
-use Rattle.host.specs.Read.{reply, orZero, valuesOf, mapRead, isReply, readReply}
-use Rattle.host.specs.Meant.{sent, EchoMeant, ResetMeant, EraseMeant, ChunkMeant, UploadMeant, rcMeant, offMeant, textMeant, TextIs, Writable, ReplyMeant}
+use Rattle.host.specs.Read.{reply, orZero, replyWith, valuesOf, mapRead, isReply, readReply}
+use Rattle.host.specs.Meant.{sent, EchoMeant, ResetMeant, EraseMeant, UploadIs, UploadMeant, rcMeant, offMeant, textMeant, TextIs, Writable, ReplyMeant}
 use Rattle.host.proofs.Writing.{request-length, sent-whole, echo-length, later-length, first-length-untagged, first-length-tagged, tag-size}
 use Rattle.host.proofs.Walking.{header-read}
 use Rattle.host.proofs.Maps.{key-d, key-r, empty-read, textAt, text-read, text-there, rc-read, placed-read, dataAt, withData, later-read, later-there, pairsFields, untagged-read, untagged-there, tagPlace, tagged-read, tagged-there, tag-there}
@@ -91,27 +90,27 @@ erase-command sequence n = refl
 
 -- a reset that was written is read as one
 pub reset-meant : ResetMeant
-unfolding writeReset requestOf resetIn
+unfolding writeReset requestOf mapped
 reset-meant sequence out n bound e =
     let p : List ℕ = requestPacket 0 sequence 5 (mapOf 0) in
     let w = sent-whole p out n e in
     ap readRequest (w .1)
     ∙ request-read 0 sequence 5 (mapOf 0) (lit< tt) (w .0) Command.Reset (reset-command sequence (length (mapOf 0)))
-    ∙ ap (λ (m : Walked). Reading.Is (resetIn m)) (empty-read Kind.Reset p (front 0 sequence 5 (mapOf 0)) (request-parts 0 sequence 5 (mapOf 0)) (front-length 0 sequence 5 (mapOf 0)))
+    ∙ ap (λ (m : Option (List ℕ)). Reading.Is (mapped (λ (f : List ℕ). Request.Reset) m)) (empty-read Kind.Reset p (front 0 sequence 5 (mapOf 0)) (request-parts 0 sequence 5 (mapOf 0)) (front-length 0 sequence 5 (mapOf 0)))
 
 -- so is an erase
 pub erase-meant : EraseMeant
-unfolding writeErase requestOf eraseIn eraseOf numberIn
+unfolding writeErase requestOf mapped eraseWith numberIn indexOf pick
 erase-meant sequence out n bound e =
     let p : List ℕ = requestPacket 1 sequence 5 (mapOf 0) in
     let w = sent-whole p out n e in
     ap readRequest (w .1)
     ∙ request-read 1 sequence 5 (mapOf 0) (lit< tt) (w .0) Command.Erase (erase-command sequence (length (mapOf 0)))
-    ∙ ap (λ (m : Walked). Reading.Is (eraseIn m)) (empty-read Kind.Erase p (front 1 sequence 5 (mapOf 0)) (request-parts 1 sequence 5 (mapOf 0)) (front-length 1 sequence 5 (mapOf 0)))
+    ∙ ap (λ (m : Option (List ℕ)). Reading.Is (mapped (λ (f : List ℕ). eraseWith (numberIn f Key.Slot)) m)) (empty-read Kind.Erase p (front 1 sequence 5 (mapOf 0)) (request-parts 1 sequence 5 (mapOf 0)) (front-length 1 sequence 5 (mapOf 0)))
 
 -- an echo that was written is read as the echo of that text
 pub echo-meant : EchoMeant
-unfolding writeEcho echoMap requestOf echoIn echoOf runIn withField
+unfolding writeEcho echoMap requestOf mapped echoWith runIn stored indexOf firstOf secondOf pick
 echo-meant sequence text out n bound small e =
     let m : List ℕ = echoMap text in
     let p : List ℕ = requestPacket 0 sequence 0 m in
@@ -123,7 +122,7 @@ echo-meant sequence text out n bound small e =
       start,
       ap readRequest (w .1)
           ∙ request-read 0 sequence 0 m (lit< tt) (w .0) Command.Echo (echo-command sequence (length m))
-          ∙ ap (λ (x : Walked). Reading.Is (echoIn x)) (text-read Kind.Echo p pre nameD text parts (front-length 0 sequence 0 m) key-d (lit< tt) fits),
+          ∙ ap (λ (x : Option (List ℕ)). Reading.Is (mapped (λ (f : List ℕ). echoWith (runIn f Key.Text)) x)) (text-read Kind.Echo p pre nameD text parts (front-length 0 sequence 0 m) key-d (lit< tt) fits),
       ap (λ (l : List ℕ). take (length text) (drop start l)) (w .1) ∙ text-there Kind.Echo p pre nameD text parts,
     )
 
@@ -194,38 +193,41 @@ module _ (s m : List ℕ) (bytes : Bytes s) (is : isRequest s ≡ true) (most : 
       asked = request-op s is
 
 -- a reply whose numbers are small enough is read as its values
-values-heard : (p : List ℕ) (f : Fields) (h : Header) → headerIn p ≡ h → above largest (numberIn (f .rc)) ≡ false → above largest (numberIn (f .off)) ≡ false
-    → valuesOf p f ≡ reply (record { header = h; rc = orZero (numberIn (f .rc)); off = numberIn (f .off); text = runIn (f .text) })
+values-heard : (p f : List ℕ) (h : Header) (rc off : Number) (text : Run) → headerIn p ≡ h
+    → numberIn f Key.Rc ≡ rc → numberIn f Key.Off ≡ off → runIn f Key.Text ≡ text
+    → above largest rc ≡ false → above largest off ≡ false
+    → valuesOf p f ≡ reply (record { header = h; rc = orZero rc; off = off; text = text })
 unfolding valuesOf
-values-heard p f h back rc off =
-    rw (rc, off, pick-no, pick-no)
-    (ap (λ (x : Header). reply (record { header = x; rc = orZero (numberIn (f .rc)); off = numberIn (f .off); text = runIn (f .text) })) back)
+values-heard p f h rc off text back a b c small less =
+    rw (a, b, c, small, less, pick-no, pick-no) (ap (λ (x : Header). reply (record { header = x; rc = orZero rc; off = off; text = text })) back)
 
 -- a reply with a return code is read as that code
-rc-meant : (s : List ℕ) (n : ℕ) → Bytes s → isRequest s ≡ true → n < 256 → 8 + length (replyMap s (Answered.Rc n)) ≤ 65533
-    → readReply (replyPacket (headerIn s) (replyMap s (Answered.Rc n)))
-    ≡ reply (record { header = answer s (replyMap s (Answered.Rc n)); rc = n; off = Number.Absent; text = Run.Absent })
-unfolding mapRead withField numberIn runIn orZero above
+rc-meant : (s : List ℕ) (n : ℕ) → Bytes s → isRequest s ≡ true → n < 256 → 8 + length (rcMap n) ≤ 65533
+    → readReply (replyPacket (headerIn s) (rcMap n))
+    ≡ reply (record { header = answer s (rcMap n); rc = n; off = Number.Absent; text = Run.Absent })
+unfolding mapRead numberIn runIn orZero above stored indexOf firstOf secondOf pick
 rc-meant s n bytes is small most =
-    let m : List ℕ = replyMap s (Answered.Rc n) in
+    let m : List ℕ = rcMap n in
     let p : List ℕ = replyPacket (headerIn s) m in
     let fits : n < 2 ^ 64 = omega arith in
     reply-read s m bytes is most
-    ∙ ap (mapRead p) (rc-read p (headerBytes (answer s m)) s n (reply-parts s m) (header-length (answer s m)) fits)
-    ∙ values-heard p _ (answer s m) (answer-back s m bytes is most) (le-ltb largest n (omega arith)) refl
+    ∙ ap (mapRead p) (rc-read p (headerBytes (answer s m)) n (reply-parts s m) (header-length (answer s m)) fits)
+    ∙ values-heard p _ (answer s m) (Number.Is n) Number.Absent Run.Absent (answer-back s m bytes is most) refl refl refl
+    (le-ltb largest n (omega arith)) refl
 
 -- a reply with an offset is read as success and that offset
 placed-meant : (s : List ℕ) (n : ℕ) → Bytes s → isRequest s ≡ true → n < 4294967296 → 8 + length (replyMap s (Answered.Placed n)) ≤ 65533
     → readReply (replyPacket (headerIn s) (replyMap s (Answered.Placed n)))
     ≡ reply (record { header = answer s (replyMap s (Answered.Placed n)); rc = 0; off = Number.Is n; text = Run.Absent })
-unfolding mapRead withField numberIn runIn orZero above
+unfolding mapRead numberIn runIn orZero above stored indexOf firstOf secondOf pick
 placed-meant s n bytes is small most =
     let m : List ℕ = replyMap s (Answered.Placed n) in
     let p : List ℕ = replyPacket (headerIn s) m in
     let fits : n < 2 ^ 64 = omega arith in
     reply-read s m bytes is most
     ∙ ap (mapRead p) (placed-read p (headerBytes (answer s m)) s n (reply-parts s m) (header-length (answer s m)) fits)
-    ∙ values-heard p _ (answer s m) (answer-back s m bytes is most) refl (le-ltb largest n (omega arith))
+    ∙ values-heard p _ (answer s m) (Number.Is 0) (Number.Is n) Run.Absent (answer-back s m bytes is most) refl refl refl
+    refl (le-ltb largest n (omega arith))
 
 -- the map of an echo's reply
 text-form : (s : List ℕ) (from len : ℕ) → replyMap s (Answered.Text from len) ≡ mapOf 1 ++ (textOf nameR ++ textOf (take len (drop from s)))
@@ -242,7 +244,7 @@ text-meant : (s : List ℕ) (from len : ℕ) → Bytes s → isRequest s ≡ tru
     × (readReply (replyPacket (headerIn s) (replyMap s (Answered.Text from len)))
     ≡ reply (record { header = answer s (replyMap s (Answered.Text from len)); rc = 0; off = Number.Absent; text = Run.At start len }))
     × (take len (drop start (replyPacket (headerIn s) (replyMap s (Answered.Text from len)))) ≡ take len (drop from s))
-unfolding mapRead withField numberIn runIn orZero above
+unfolding mapRead numberIn runIn orZero above stored indexOf firstOf secondOf pick
 text-meant s from len bytes is inside most =
     let m : List ℕ = replyMap s (Answered.Text from len) in
     let p : List ℕ = replyPacket (headerIn s) m in
@@ -255,15 +257,16 @@ text-meant s from len bytes is inside most =
       start,
       reply-read s m bytes is most
           ∙ ap (mapRead p) (text-read Kind.Reply p pre nameR x parts (header-length (answer s m)) key-r (lit< tt) fits)
-          ∙ values-heard p _ (answer s m) (answer-back s m bytes is most) refl refl
+          ∙ values-heard p _ (answer s m) Number.Absent Number.Absent (Run.At start (length x)) (answer-back s m bytes is most) refl refl refl refl refl
           ∙ ap (λ (k : ℕ). reply (record { header = answer s m; rc = 0; off = Number.Absent; text = Run.At start k })) size,
       ap (λ (k : ℕ). take k (drop start p)) (sym size) ∙ text-there Kind.Reply p pre nameR x parts,
     )
 
 -- a reply that was written is read as what it meant
 pub reply-meant : ReplyMeant
-unfolding rcMeant offMeant textMeant TextIs Writable
-reply-meant s (Answered.Rc n) bytes is can most = (0, rc-meant s n bytes is can most, tt)
+unfolding replyMap rcMeant offMeant textMeant TextIs Writable
+reply-meant s (Answered.Refused why) bytes is can most = (0, rc-meant s (rcOf why) bytes is (rc-byte why) most, tt)
+reply-meant s Answered.Done bytes is can most = (0, rc-meant s 0 bytes is (lit< tt) most, tt)
 reply-meant s (Answered.Placed n) bytes is can most = (0, placed-meant s n bytes is can most, tt)
 reply-meant s (Answered.Text from len) bytes is can most = text-meant s from len bytes is can most
 
@@ -297,30 +300,26 @@ module _ (sequence : ℕ) (x : List ℕ) (off size : ℕ) (tag out : List ℕ) (
       (ltb-false 4294967295 size (d .0), g .0, a .1 ∙ b .1 ∙ chosen ∙ c .1 ∙ d .1 ∙ f .1 ∙ g .1)
 
 -- an upload request is read by its map
-upload-read : (sequence : ℕ) (m : List ℕ) (f : Fields) (r : Request) → length (requestPacket 1 sequence 1 m) ≤ 65533
-    → mapFrom Kind.Upload (requestPacket 1 sequence 1 m) 8 ≡ Map f
-    → uploadIn (Map f) ≡ r
+upload-read : (sequence : ℕ) (m f : List ℕ) (r : Request) → length (requestPacket 1 sequence 1 m) ≤ 65533
+    → mapFrom Kind.Upload (requestPacket 1 sequence 1 m) 8 ≡ some f
+    → uploadOf f ≡ r
     → readRequest (requestPacket 1 sequence 1 m) ≡ Reading.Is r
-unfolding requestOf
+unfolding requestOf mapped
 upload-read sequence m f r most walked is =
     request-read 1 sequence 1 m (lit< tt) most Command.Upload (upload-command sequence (length m))
-    ∙ ap (λ (x : Walked). Reading.Is (uploadIn x)) walked
+    ∙ ap (λ (x : Option (List ℕ)). Reading.Is (mapped uploadOf x)) walked
     ∙ ap Reading.Is is
 
--- an absent tag is not a whole one
-no-tag : Sha.Absent ≡ Sha.Whole → ⊥
-no-tag e = let z : _≡_ {A = ℕ} 0 1 = cc in omega arith
-
--- the 32 bytes at the place of a tag of 32 bytes
-tag-read : (p : List ℕ) (place size : ℕ) (tag : List ℕ) → size ≡ 32 → take size (drop place p) ≡ tag → take 32 (drop (pick (eqb size 32) place 0) p) ≡ tag
-tag-read p place size tag e there =
-    let chosen : pick (eqb size 32) place 0 ≡ place = rw (eq-eqb size 32 e, pick-yes) refl in
-    ap₂ (λ (k from : ℕ). take k (drop from p)) (sym e) chosen ∙ there
+-- the upload with this offset and length, its data and its tag at these places
+abbrev asked : ℕ → ℕ → ℕ → Number → Run → Upload
+asked off start size length sha =
+    record { off = off; start = start; size = size; length = length; image = Number.Absent; sha = sha; upgrade = false }
 
 -- past offset 0: the offset and the data
-later-meant : (sequence : ℕ) (x : List ℕ) (off size : ℕ) (tag : List ℕ) → (off ≡ 0 → ⊥) → off ≤ 4294967295 → length (requestPacket 1 sequence 1 (laterMap x off)) ≤ 65533
-    → (c : Chunk) × ChunkMeant x off size tag (requestPacket 1 sequence 1 (laterMap x off)) c
-unfolding uploadIn uploadOf numberIn runIn flagIn shaOf tagAt withField
+later-meant : (sequence : ℕ) (x : List ℕ) (off size : ℕ) (tag : List ℕ) → (off ≡ 0 → ⊥) → off ≤ 4294967295
+    → length (requestPacket 1 sequence 1 (laterMap x off)) ≤ 65533
+    → (u : Upload) × UploadIs x off size tag (requestPacket 1 sequence 1 (laterMap x off)) u
+unfolding uploadWith numberIn runIn flagIn bytesIn isThere both stored indexOf firstOf secondOf pick
 later-meant sequence x off size tag past small most =
     let m : List ℕ = laterMap x off in
     let p : List ℕ = requestPacket 1 sequence 1 m in
@@ -328,27 +327,27 @@ later-meant sequence x off size tag past small most =
     let parts : p ≡ pre ++ m = request-parts 1 sequence 1 m in
     let fits : length x < 2 ^ 64 = omega (arith, request-length 1 sequence 1 m, later-length x off) in
     let less : off < 2 ^ 64 = omega arith in
-    let f : Fields = withField Key.Off (Is (Unsigned off)) (withData (dataAt pre 2 x) (length x)) in
-    let absent : (y : Number) → Number.Absent ≡ pick (eqb off 0) y Number.Absent = λ y. rw (ne-eqb off 0 past, pick-no) refl in
-    let without : (y : Sha) → Sha.Absent ≡ pick (eqb off 0) y Sha.Absent = λ y. rw (ne-eqb off 0 past, pick-no) refl in (
-      chunkOf f off (dataAt pre 2 x) (length x),
+    let f : List ℕ = stored Key.Off (Unsigned off) (withData (dataAt pre 2 x) (length x)) in
+    let none : eqb off 0 ≡ false = ne-eqb off 0 past in (
+      asked off (dataAt pre 2 x) (length x) Number.Absent Run.Absent,
       record {
         read = upload-read sequence m f _ most (later-read p pre x off parts (front-length 1 sequence 1 m) fits less) refl;
         offset = refl;
         data-is = later-there p pre x off parts;
         data-size = refl;
-        length-is = absent (Number.Is size);
+        length-is = rw none refl;
         image-is = refl;
-        tag-there = without (pick (eqb (length tag) 0) Sha.Absent Sha.Whole);
-        tag-is = λ e. absurd (no-tag e);
+        tag-there = rw none refl;
+        tag-is = rw none refl;
         upgrade-is = refl;
       },
     )
 
 -- at offset 0 without a tag: the length too
-untagged-meant : (sequence : ℕ) (x : List ℕ) (size : ℕ) (tag : List ℕ) → length tag ≡ 0 → size ≤ 4294967295 → length (requestPacket 1 sequence 1 (firstMap x size tag)) ≤ 65533
-    → (c : Chunk) × ChunkMeant x 0 size tag (requestPacket 1 sequence 1 (firstMap x size tag)) c
-unfolding uploadIn uploadOf numberIn runIn flagIn shaOf tagAt withField
+untagged-meant : (sequence : ℕ) (x : List ℕ) (size : ℕ) (tag : List ℕ) → length tag ≡ 0 → size ≤ 4294967295
+    → length (requestPacket 1 sequence 1 (firstMap x size tag)) ≤ 65533
+    → (u : Upload) × UploadIs x 0 size tag (requestPacket 1 sequence 1 (firstMap x size tag)) u
+unfolding uploadWith numberIn runIn flagIn bytesIn isThere both stored indexOf firstOf secondOf pick
 untagged-meant sequence x size tag none small most =
     let m : List ℕ = firstMap x size tag in
     let p : List ℕ = requestPacket 1 sequence 1 m in
@@ -356,25 +355,30 @@ untagged-meant sequence x size tag none small most =
     let parts : p ≡ pre ++ m = request-parts 1 sequence 1 m in
     let fits : length x < 2 ^ 64 = omega (arith, request-length 1 sequence 1 m, first-length-untagged x size tag none) in
     let less : size < 2 ^ 64 = omega arith in
-    let f : Fields = pairsFields (dataAt pre 3 x) (length x) size in (
-      chunkOf f 0 (dataAt pre 3 x) (length x),
+    let f : List ℕ = pairsFields (dataAt pre 3 x) (length x) size in (
+      asked 0 (dataAt pre 3 x) (length x) (Number.Is size) Run.Absent,
       record {
         read = upload-read sequence m f _ most (untagged-read p pre x size tag none parts (front-length 1 sequence 1 m) fits less) refl;
         offset = refl;
         data-is = untagged-there p pre x size tag none parts;
         data-size = refl;
-        length-is = sym (pick-yes (Number.Is size) Number.Absent);
+        length-is = refl;
         image-is = refl;
-        tag-there = rw (eq-eqb (length tag) 0 none, pick-yes, pick-yes) refl;
-        tag-is = λ e. absurd (no-tag e);
+        tag-there = rw (eq-eqb (length tag) 0 none) refl;
+        tag-is = sym (nothing-in tag none);
         upgrade-is = refl;
       },
     )
+  where
+    nothing-in : (l : List ℕ) → length l ≡ 0 → l ≡ []
+    nothing-in [] e = refl
+    nothing-in (a ∷ l) e = absurd (omega arith)
 
 -- at offset 0 with a tag: the length and the tag too
-tagged-meant : (sequence : ℕ) (x : List ℕ) (size : ℕ) (tag : List ℕ) → length tag ≡ 32 → size ≤ 4294967295 → length (requestPacket 1 sequence 1 (firstMap x size tag)) ≤ 65533
-    → (c : Chunk) × ChunkMeant x 0 size tag (requestPacket 1 sequence 1 (firstMap x size tag)) c
-unfolding uploadIn uploadOf numberIn runIn flagIn shaOf tagAt withField
+tagged-meant : (sequence : ℕ) (x : List ℕ) (size : ℕ) (tag : List ℕ) → length tag ≡ 32 → size ≤ 4294967295
+    → length (requestPacket 1 sequence 1 (firstMap x size tag)) ≤ 65533
+    → (u : Upload) × UploadIs x 0 size tag (requestPacket 1 sequence 1 (firstMap x size tag)) u
+unfolding uploadWith numberIn runIn flagIn bytesIn isThere both stored indexOf firstOf secondOf pick
 tagged-meant sequence x size tag whole small most =
     let m : List ℕ = firstMap x size tag in
     let p : List ℕ = requestPacket 1 sequence 1 m in
@@ -385,22 +389,22 @@ tagged-meant sequence x size tag whole small most =
     let less : size < 2 ^ 64 = omega arith in
     let short : length tag < 2 ^ 64 = omega arith in
     let place : ℕ = tagPlace pre x size tag in
-    let f : Fields = withField Key.Sha (Is (Value.Bytes place (length tag))) (pairsFields (dataAt pre 4 x) (length x) size) in (
-      chunkOf f 0 (dataAt pre 4 x) (length x),
+    let f : List ℕ = stored Key.Sha (Value.Bytes place (length tag)) (pairsFields (dataAt pre 4 x) (length x) size) in (
+      asked 0 (dataAt pre 4 x) (length x) (Number.Is size) (Run.At place (length tag)),
       record {
         read = upload-read sequence m f _ most (tagged-read p pre x size tag some parts (front-length 1 sequence 1 m) fits less short) refl;
         offset = refl;
         data-is = tagged-there p pre x size tag some parts;
         data-size = refl;
-        length-is = sym (pick-yes (Number.Is size) Number.Absent);
+        length-is = refl;
         image-is = refl;
-        tag-there = rw (eq-eqb (length tag) 32 whole, ne-eqb (length tag) 0 some, pick-yes, pick-yes, pick-no) refl;
-        tag-is = λ e. tag-read p place (length tag) tag whole (tag-there p pre x size tag some parts);
+        tag-there = rw (ne-eqb (length tag) 0 some) refl;
+        tag-is = tag-there p pre x size tag some parts;
         upgrade-is = refl;
       },
     )
 
--- an upload that was written is read as the chunk that was meant
+-- an upload that was written is read as the upload that was meant
 pub upload-meant : UploadMeant
 upload-meant sequence x off size tag out n bound bx bt e =
     elim (decLe off 0) [
@@ -411,17 +415,17 @@ upload-meant sequence x off size tag out n bound bx bt e =
     ]
   where
     moved : (m : List ℕ) → writeUpload sequence x off size tag out ≡ put (requestPacket 1 sequence 1 m) out
-        → (length (requestPacket 1 sequence 1 m) ≤ 65533 → (c : Chunk) × ChunkMeant x off size tag (requestPacket 1 sequence 1 m) c)
-        → (c : Chunk) × ChunkMeant x off size tag (sent (writeUpload sequence x off size tag out) n) c
+        → (length (requestPacket 1 sequence 1 m) ≤ 65533 → (u : Upload) × UploadIs x off size tag (requestPacket 1 sequence 1 m) u)
+        → (u : Upload) × UploadIs x off size tag (sent (writeUpload sequence x off size tag out) n) u
     moved m went meant =
         let w = sent-whole (requestPacket 1 sequence 1 m) out n (ap (λ (o : Outcome). o .says) (sym went) ∙ e) in
-        subst (λ (l : List ℕ). (c : Chunk) × ChunkMeant x off size tag l c) (sym (ap (λ (o : Outcome). take n (o .buffer)) went ∙ w .1)) (meant (w .0))
+        subst (λ (l : List ℕ). (u : Upload) × UploadIs x off size tag l u) (sym (ap (λ (o : Outcome). take n (o .buffer)) went ∙ w .1)) (meant (w .0))
 
     at-start : off ≡ 0 → (size ≤ 4294967295) × (misSized tag ≡ false) × (writeUpload sequence x off size tag out ≡ put (requestPacket 1 sequence 1 (firstMap x size tag)) out)
-        → (c : Chunk) × ChunkMeant x off size tag (sent (writeUpload sequence x off size tag out) n) c
+        → (u : Upload) × UploadIs x off size tag (sent (writeUpload sequence x off size tag out) n) u
     at-start zero w =
         moved (firstMap x size tag) (w .2)
-        (λ most. subst (λ (o : ℕ). (c : Chunk) × ChunkMeant x o size tag (requestPacket 1 sequence 1 (firstMap x size tag)) c) (sym zero)
+        (λ most. subst (λ (o : ℕ). (u : Upload) × UploadIs x o size tag (requestPacket 1 sequence 1 (firstMap x size tag)) u) (sym zero)
         (elim (decLe (length tag) 0) [
           | yes a ↦ untagged-meant sequence x size tag (omega arith) (w .0) most
           | no a ↦ tagged-meant sequence x size tag (tag-size tag (w .1) (λ z. omega arith)) (w .0) most

@@ -22,7 +22,7 @@ use Rattle.smp.proofs.Headers.{header-length}
 use Rattle.smp.proofs.Writing.{pasted-front, head-tiny, head-word}
 use Rattle.host.specs.declared.Written.the-variants.{Packet}
 use Rattle.host.specs.Write.{requestHeader, requestPacket, echoMap, laterMap, firstMap, misSized, Outcome, packet, refused, outcome, unsendable, put}
-use Rattle.host.specs.Steps.{sendable, firstPairs}
+use Rattle.host.specs.Contract.{sendable, firstPairs}
 
 -- a request is eight bytes longer than its map
 pub request-length : (group sequence command : ℕ) (m : List ℕ) → length (requestPacket group sequence command m) ≡ 8 + length m

@@ -1,4 +1,4 @@
 pub mod Write
 pub mod Read
 pub mod Meant
-pub mod Steps
+pub mod Contract

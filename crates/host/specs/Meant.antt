@@ -3,16 +3,18 @@
 -- Assumes nothing.
 use Prim.Native.Nat.{ℕ, _+_, _≤_, _<_}
 use mathlib.Core.Path.{_≡_}
-use mathlib.Core.Bool.{Bool, true, false}
-use mathlib.Core.List.{List}
+use mathlib.Core.Bool.{true, false, not}
+use mathlib.Core.List.{List, []}
 use lib.Dec.{eqb}
 use lib.ListN.{length, take, drop}
-use Rattle.laws.specs.Choice.{pick}
+use Rattle.laws.specs.declared.Number.{Number}
+use Rattle.laws.specs.declared.Run.{Run}
+use Rattle.laws.specs.Choice.{pick, both}
 use Rattle.laws.specs.Bytes.{Bytes}
-use Rattle.slot.specs.declared.Number.{Number}
-use Rattle.slot.specs.declared.Sha.{Sha}
-use Rattle.smp.specs.declared.Run.{Run}
-use Rattle.smp.specs.declared.Chunk.{Chunk}
+use Rattle.laws.specs.Parts.{bytesIn, isThere}
+use Rattle.reason.specs.Rc.{rcOf}
+use Rattle.slot.specs.declared.Upload.{Upload}
+use Rattle.slot.specs.Act.{dataIn}
 use Rattle.smp.specs.declared.Request.{Request}
 use Rattle.smp.specs.declared.Reading.{Reading}
 use Rattle.smp.specs.declared.Reply.{Reply as Answered}
@@ -41,49 +43,55 @@ ResetMeant = (sequence : ℕ) (out : List ℕ) (n : ℕ) → sequence < 256 → 
 abbrev pub EraseMeant : Type 0
 EraseMeant = (sequence : ℕ) (out : List ℕ) (n : ℕ) → sequence < 256 → writeErase sequence out .says ≡ packet n → readRequest (sent (writeErase sequence out) n) ≡ Reading.Is Request.Erase
 
--- an upload request p is read as the chunk c: the offset, the data, and at offset 0 the length and the tag; nothing else is asked
-pub record ChunkMeant (x : List ℕ) (off size : ℕ) (tag p : List ℕ) (c : Chunk) : Type 0 where
-  pub read : readRequest p ≡ Reading.Is (Request.Upload c)
-  pub offset : c .off ≡ off
-  pub data-is : take (c .size) (drop (c .start) p) ≡ x
-  pub data-size : c .size ≡ length x
-  pub length-is : c .length ≡ pick (eqb off 0) (Number.Is size) Number.Absent
-  pub image-is : c .image ≡ Number.Absent
-  pub tag-there : c .sha ≡ pick (eqb off 0) (pick (eqb (length tag) 0) Sha.Absent Sha.Whole) Sha.Absent
-  pub tag-is : c .sha ≡ Sha.Whole → take 32 (drop (c .«tag_at») p) ≡ tag
-  pub upgrade-is : c .upgrade ≡ false
+-- an upload request p is read as u: the offset, the data, and at offset 0 the length and the tag; nothing else is asked
+pub record UploadIs (x : List ℕ) (off size : ℕ) (tag p : List ℕ) (u : Upload) : Type 0 where
+  pub read : readRequest p ≡ Reading.Is (Request.Upload u)
+  pub offset : u .off ≡ off
+  pub data-is : dataIn p u ≡ x
+  pub data-size : u .size ≡ length x
+  pub length-is : u .length ≡ pick (eqb off 0) (Number.Is size) Number.Absent
+  pub image-is : u .image ≡ Number.Absent
+  pub tag-there : isThere (u .sha) ≡ both (eqb off 0) (not (eqb (length tag) 0))
+  pub tag-is : bytesIn p (u .sha) ≡ pick (eqb off 0) tag []
+  pub upgrade-is : u .upgrade ≡ false
 
+-- an upload that was written is read as the upload of that data
 abbrev pub UploadMeant : Type 0
 UploadMeant =
     (sequence : ℕ) (x : List ℕ) (off size : ℕ) (tag out : List ℕ) (n : ℕ) → sequence < 256 → Bytes x → Bytes tag
     → writeUpload sequence x off size tag out .says ≡ packet n
-    → (c : Chunk) × ChunkMeant x off size tag (sent (writeUpload sequence x off size tag out) n) c
+    → (u : Upload) × UploadIs x off size tag (sent (writeUpload sequence x off size tag out) n) u
 
 -- the return code, the offset and the text that a reply means; the text stands at `start` in the reply
 unfoldable pub rcMeant : Answered → ℕ
-rcMeant (Answered.Rc n) = n
+rcMeant (Answered.Refused why) = rcOf why
+rcMeant Answered.Done = 0
 rcMeant (Answered.Placed n) = 0
 rcMeant (Answered.Text from len) = 0
 
 unfoldable pub offMeant : Answered → Number
-offMeant (Answered.Rc n) = Number.Absent
+offMeant (Answered.Refused why) = Number.Absent
+offMeant Answered.Done = Number.Absent
 offMeant (Answered.Placed n) = Number.Is n
 offMeant (Answered.Text from len) = Number.Absent
 
 unfoldable pub textMeant : Answered → ℕ → Run
-textMeant (Answered.Rc n) start = Run.Absent
+textMeant (Answered.Refused why) start = Run.Absent
+textMeant Answered.Done start = Run.Absent
 textMeant (Answered.Placed n) start = Run.Absent
 textMeant (Answered.Text from len) start = Run.At start len
 
 -- the text that a reply p carries at `start` is that of the request s
 unfoldable pub TextIs : List ℕ → Answered → List ℕ → ℕ → Type 0
-TextIs s (Answered.Rc n) p start = Unit {0}
+TextIs s (Answered.Refused why) p start = Unit {0}
+TextIs s Answered.Done p start = Unit {0}
 TextIs s (Answered.Placed n) p start = Unit {0}
 TextIs s (Answered.Text from len) p start = take len (drop start p) ≡ take len (drop from s)
 
 -- a reply that the controller can write: an offset of four bytes, a text that lies in the request
 unfoldable pub Writable : List ℕ → Answered → Type 0
-Writable s (Answered.Rc n) = n < 256
+Writable s (Answered.Refused why) = Unit {0}
+Writable s Answered.Done = Unit {0}
 Writable s (Answered.Placed n) = n < 4294967296
 Writable s (Answered.Text from len) = from + len ≤ length s
 

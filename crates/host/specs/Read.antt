@@ -5,17 +5,18 @@
 use Prim.Native.Nat.{ℕ}
 use mathlib.Core.Bool.{Bool, not}
 use mathlib.Core.List.{List}
+use mathlib.Core.Option.{Option, none, some}
 use lib.Dec.{eqb}
+use Rattle.laws.specs.declared.Number.{Number}
+use Rattle.laws.specs.declared.Run.{Run}
 use Rattle.laws.specs.Choice.{pick, both}
 use Rattle.refusal.specs.Number.{numberOf}
 use Rattle.map.specs.declared.Kind.{Kind}
-use Rattle.map.specs.declared.Fields.{Fields}
-use Rattle.map.specs.declared.Walked.{Walked}
+use Rattle.map.specs.declared.Key.{Key}
+use Rattle.map.specs.Fields.{numberIn, runIn}
 use Rattle.map.specs.Walk.{mapFrom}
-use Rattle.slot.specs.declared.Number.{Number}
 use Rattle.slot.specs.Plan.{above, largest}
 use Rattle.smp.specs.Packet.{headerIn, sized}
-use Rattle.smp.specs.Request.{numberIn, runIn}
 use Rattle.host.specs.declared.Reply.{Reply}
 use Rattle.host.specs.declared.Heard.{Heard}
 
@@ -34,16 +35,21 @@ unfoldable pub orZero : Number → ℕ
 orZero Number.Absent = 0
 orZero (Number.Is n) = n
 
--- a reply's values, from its map's fields
-unfoldable pub valuesOf : List ℕ → Fields → Said
-valuesOf s f =
-    pick (above largest (numberIn (f .rc))) (refused 10)
-    (pick (above largest (numberIn (f .off))) (refused 10)
-    (reply (record { header = headerIn s; rc = orZero (numberIn (f .rc)); off = numberIn (f .off); text = runIn (f .text) })))
+-- the values of a reply with this return code, offset and text
+abbrev pub replyWith : List ℕ → Number → Number → Run → Reply
+replyWith s rc off text = record { header = headerIn s; rc = orZero rc; off = off; text = text }
 
-unfoldable pub mapRead : List ℕ → Walked → Said
-mapRead s Walked.Malformed = refused 10
-mapRead s (Walked.Map f) = valuesOf s f
+-- a reply's values, from its map's fields
+unfoldable pub valuesOf : List ℕ → List ℕ → Said
+valuesOf s f =
+    pick (above largest (numberIn f Key.Rc)) (refused 10)
+    (pick (above largest (numberIn f Key.Off)) (refused 10)
+    (reply (replyWith s (numberIn f Key.Rc) (numberIn f Key.Off) (runIn f Key.Text))))
+
+-- a reply's values, where its map is well formed
+unfoldable pub mapRead : List ℕ → Option (List ℕ) → Said
+mapRead s none = refused 10
+mapRead s (some f) = valuesOf s f
 
 -- a packet is of a reply's kind: the right length, and op 1 or 3
 unfoldable pub isReply : List ℕ → Bool

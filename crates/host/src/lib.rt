@@ -1,12 +1,10 @@
 // The host's end of a packet: requests written into a lent buffer, replies read, and the next sequence number.
-use map::Field;
-use map::Fields;
+use laws::Number;
+use laws::Run;
+use map::Key;
 use map::Kind;
-use map::Walked;
 use refusal::Refusal;
-use slot::Number;
 use smp::Header;
-use smp::Run;
 ghost use mathlib.Core.Path.{_≡_};
 ghost use mathlib.Core.Bool.{false};
 ghost use mathlib.Core.List.{_++_};
@@ -18,8 +16,8 @@ ghost use Rattle.cbor.specs.Write.{bytesOf, textOf};
 ghost use Rattle.slot.specs.Plan.{above, largest};
 ghost use Rattle.smp.specs.Packet.{headerBytes};
 ghost use Rattle.host.specs.Write.{requestHeader, requestPacket, echoMap, laterMap, firstMap, outcome, put, misSized, writeEcho, writeReset, writeErase, writeFirst, writeUpload, nextSequence};
-ghost use Rattle.host.specs.Read.{said, orZero, valuesOf, isReply, readReply};
-ghost use Rattle.host.specs.Steps.{sendable, emptyRequest, firstPairs, replyOf};
+ghost use Rattle.host.specs.Read.{said, orZero, replyWith, valuesOf, isReply, readReply};
+ghost use Rattle.host.specs.Contract.{sendable, emptyRequest, firstPairs};
 
 // What a request writer says.
 pub enum Written {
@@ -306,37 +304,34 @@ fn is_reply(s: &[u8]) -> bool
     op == 3
 }
 
-// The values of a reply whose return code and offset are these.
-fn reply_of(s: &[u8], rc: Number, off: Number, text: Field) -> Reply
-    ensures { λ r. ⌜ r ≡ replyOf (now (s .entry)) rc off text ⌝ }
+// The values of a reply with this return code, offset and text.
+fn reply_with(s: &[u8], rc: Number, off: Number, text: Run) -> Reply
+    ensures { λ r. ⌜ r ≡ replyWith (now (s .entry)) rc off text ⌝ }
 {
     let header = smp::header_in(s);
     let code = or_zero(rc);
-    let run = smp::run_in(text);
     Reply {
         header,
         rc: code,
         off,
-        text: run,
+        text,
     }
 }
 
 // A reply's values, from its map's fields.
-fn values_of(s: &[u8], f: Fields) -> Heard
-    ensures { λ r. ⌜ said r ≡ valuesOf (now (s .entry)) f ⌝ }
+fn values_of(s: &[u8], f: &[u64; 30]) -> Heard
+    ensures { λ r. ⌜ said r ≡ valuesOf (now (s .entry)) (now (f .entry)) ⌝ }
 {
-    let rc_field = f.rc;
-    let off_field = f.off;
-    let text_field = f.text;
-    let rc = smp::number_in(rc_field);
+    let rc = map::number_in(f, Key::Rc);
     if is_large(rc) {
         return Heard::Refused(Refusal::WrongKind);
     }
-    let off = smp::number_in(off_field);
+    let off = map::number_in(f, Key::Off);
     if is_large(off) {
         return Heard::Refused(Refusal::WrongKind);
     }
-    Heard::Reply(reply_of(s, rc, off, text_field))
+    let text = map::run_in(f, Key::Text);
+    Heard::Reply(reply_with(s, rc, off, text))
 }
 
 // A packet read as a reply: the text stays in the packet.
@@ -347,11 +342,12 @@ pub fn read_reply(s: &[u8]) -> Heard
     if !reply {
         return Heard::Refused(Refusal::WrongKind);
     }
-    let walked = map::map_from(Kind::Reply, s, 8);
-    let Walked::Map(fields) = walked else {
+    let mut f = [0u64; 30];
+    let whole = map::map_from(Kind::Reply, s, 8, &mut f);
+    if !whole {
         return Heard::Refused(Refusal::WrongKind);
-    };
-    values_of(s, fields)
+    }
+    values_of(s, &f)
 }
 
 // The sequence number after this one.

@@ -1,9 +1,21 @@
-// What several layers need and none owns: choices, lists of bytes and their laws (specs/, proofs/), and the functions on slices that
-// everyone calls.
+// What several layers need and none owns: choices, lists of bytes and their laws (specs/, proofs/), what a map may leave out, and the
+// functions on slices that everyone calls.
 ghost use mathlib.Core.Path.{_≡_};
 ghost use Prim.Native.Nat.{_+_, _≤_, _<_};
 ghost use lib.ListN.{length, getD, replicate};
 ghost use Rattle.laws.specs.Bytes.{pasted, same, be16};
+
+// A number that may be left out.
+pub enum Number {
+    Absent,
+    Is(u64),
+}
+
+// A run of bytes that may be left out: where it starts among those that it was read from, and its length.
+pub enum Run {
+    Absent,
+    At { start: usize, len: usize },
+}
 
 // Writes src into buf from place at on; the other bytes of buf stay.
 pub fn put(buf: &mut [u8], at: usize, src: &[u8])

@@ -1,3 +1,3 @@
 pub mod Ways
-pub mod Laws
 pub mod Sound
+pub mod Laws

@@ -1,15 +1,21 @@
--- In a map that was read, every field has the type listed for its key, and every string lies within the bytes.
+-- Every string among the fields of a map that was read lies within the bytes that it was read from.
 -- Assumes nothing.
-use Prim.{Unit}
-use mathlib.Core.Path.{_≡_}
-use mathlib.Core.Bool.{not}
+use mathlib.Core.Path.{_≡_, refl, sym, ap, ap₂, _∙_}
+use mathlib.Core.Bool.{Bool, true, false, not}
 use mathlib.Core.List.{List}
-use Prim.Native.Nat.{ℕ, zero, suc, _+_, _-_}
-use lib.Dec.{ltb, eqb}
-use lib.ListN.{length, take, drop}
-use borrow.Author.Tests.{eqb-true}
+use mathlib.Core.Option.{Option, none, some}
+use Prim.Native.Nat.{ℕ, zero, suc, _+_, _*_, _-_, _≤_, _<_}
+use native.Mathlib.Decide.{decLe}
+use native.Mathlib.Omega.{arith}
+use lib.Dec.{ltb, eqb, lit<}
+use lib.ListN.{length, getD, set, take, drop, length-set, length-replicate}
+use lib.Seq.{getD-set-same, getD-set-other}
+use borrow.Author.Tests.{eqb-true, not-false}
+use Rattle.laws.specs.declared.Run.{Run}
+use Rattle.laws.specs.Parts.{Within}
 use Rattle.laws.proofs.Choice.{pick-case}
 use Rattle.cbor.specs.declared.Value.{Value}
+use Rattle.cbor.specs.declared.Value.the-variants.{Unsigned, Negative, Bytes, Text, Flag, Null}
 use Rattle.cbor.specs.declared.Head.{Head}
 use Rattle.cbor.specs.declared.Item.{Item}
 use Rattle.cbor.specs.Read.{headAt, itemAt}
@@ -17,132 +23,189 @@ use Rattle.cbor.specs.Within.{Inside, ItemWithin}
 use Rattle.cbor.proofs.Laws.{item-within}
 use Rattle.map.specs.declared.Kind.{Kind}
 use Rattle.map.specs.declared.Key.{Key}
-use Rattle.map.specs.declared.Field.{Field}
-use Rattle.map.specs.declared.Field.the-variants.{Is}
-use Rattle.map.specs.declared.Fields.{Fields}
-use Rattle.map.specs.declared.Walked.{Walked}
-use Rattle.map.specs.declared.Walked.the-variants.{Map}
-use Rattle.map.specs.declared.Paired.{Paired}
-use Rattle.map.specs.declared.Paired.the-variants.{Next}
-use Rattle.map.specs.Keys.{keyOf, typeOf, typeFor}
-use Rattle.map.specs.Walk.{nothing, fieldAt, withField, isThere, listed, entered, pairEnd, pairValue, pairAfter, pairAt, afterPair, walk, mapAfter, mapFrom}
-use Rattle.map.specs.Sound.{FieldSound, Sound}
+use Rattle.map.specs.Keys.{keyOf, typeOf, typeFor, listed}
+use Rattle.map.specs.Fields.{indexOf, placeOf, nothing, there, firstOf, secondOf, stored, runIn}
+use Rattle.map.specs.Walk.{
+  Found,
+  malformed,
+  upTo,
+  entered,
+  valued,
+  keyed,
+  pairAt,
+  andThen,
+  pairs,
+  mapAfter,
+  mapAt,
+  endingAt,
+  mapFrom,
+}
 
--- a map of which nothing has been read
+-- the fields of the keys that hold strings, which are the first three, name parts of s
+record Sound (s f : List ℕ) : Type 0 where
+  size : length f ≡ 30
+  inside : (i : ℕ) → i < 3 → getD f (3 * i + 1) 0 + getD f (3 * i + 2) 0 ≤ length s
+
+-- of what reading comes to
+unfoldable FoundSound : List ℕ → Found → Type 0
+FoundSound s malformed = Unit {0}
+FoundSound s (upTo at f) = Sound s f
+
+-- nothing has been read
 nothing-sound : (s : List ℕ) → Sound s nothing
-nothing-sound s = record { text = tt; chunk = tt; sha = tt; off = tt; len = tt; image = tt; upgrade = tt; slot = tt; rc = tt }
+nothing-sound s = record { size = refl; inside = each }
+  where
+    each : (i : ℕ) → i < 3 → getD nothing (3 * i + 1) 0 + getD nothing (3 * i + 2) 0 ≤ length s
+    each zero h = omega arith
+    each (suc zero) h = omega arith
+    each (suc (suc zero)) h = omega arith
+    each (suc (suc (suc i))) h = absurd (omega arith)
 
--- one field more
-with-sound : (s : List ℕ) (k : Key) (v : Field) (f : Fields) → FieldSound s k v → Sound s f → Sound s (withField k v f)
-unfolding withField
-with-sound s Key.Text v f p o = record { text = p; chunk = o .chunk; sha = o .sha; off = o .off; len = o .len; image = o .image; upgrade = o .upgrade; slot = o .slot; rc = o .rc }
-with-sound s Key.Data v f p o = record { text = o .text; chunk = p; sha = o .sha; off = o .off; len = o .len; image = o .image; upgrade = o .upgrade; slot = o .slot; rc = o .rc }
-with-sound s Key.Sha v f p o = record { text = o .text; chunk = o .chunk; sha = p; off = o .off; len = o .len; image = o .image; upgrade = o .upgrade; slot = o .slot; rc = o .rc }
-with-sound s Key.Off v f p o = record { text = o .text; chunk = o .chunk; sha = o .sha; off = p; len = o .len; image = o .image; upgrade = o .upgrade; slot = o .slot; rc = o .rc }
-with-sound s Key.Len v f p o = record { text = o .text; chunk = o .chunk; sha = o .sha; off = o .off; len = p; image = o .image; upgrade = o .upgrade; slot = o .slot; rc = o .rc }
-with-sound s Key.Image v f p o = record { text = o .text; chunk = o .chunk; sha = o .sha; off = o .off; len = o .len; image = p; upgrade = o .upgrade; slot = o .slot; rc = o .rc }
-with-sound s Key.Upgrade v f p o = record { text = o .text; chunk = o .chunk; sha = o .sha; off = o .off; len = o .len; image = o .image; upgrade = p; slot = o .slot; rc = o .rc }
-with-sound s Key.Slot v f p o = record { text = o .text; chunk = o .chunk; sha = o .sha; off = o .off; len = o .len; image = o .image; upgrade = o .upgrade; slot = p; rc = o .rc }
-with-sound s Key.Rc v f p o = record { text = o .text; chunk = o .chunk; sha = o .sha; off = o .off; len = o .len; image = o .image; upgrade = o .upgrade; slot = o .slot; rc = p }
-with-sound s Key.Other v f p o = o
+-- a key that holds a string has its type, and a value of that type is a part of s
+string-inside : (s : List ℕ) (v : Value) (t : ℕ) → 2 ≤ t → t ≤ 3 → typeOf v ≡ t → Inside s v → firstOf v + secondOf v ≤ length s
+unfolding typeOf firstOf secondOf
+string-inside s (Unsigned n) t a b e h = absurd (omega arith)
+string-inside s (Negative n) t a b e h = absurd (omega arith)
+string-inside s (Bytes start len) t a b e h = h
+string-inside s (Text start len) t a b e h = h
+string-inside s (Flag x) t a b e h = absurd (omega arith)
+string-inside s Null t a b e h = absurd (omega arith)
 
--- the field of a key
-field-sound : (s : List ℕ) (k : Key) (f : Fields) → Sound s f → FieldSound s k (fieldAt k f)
-unfolding fieldAt
-field-sound s Key.Text f o = o .text
-field-sound s Key.Data f o = o .chunk
-field-sound s Key.Sha f o = o .sha
-field-sound s Key.Off f o = o .off
-field-sound s Key.Len f o = o .len
-field-sound s Key.Image f o = o .image
-field-sound s Key.Upgrade f o = o .upgrade
-field-sound s Key.Slot f o = o .slot
-field-sound s Key.Rc f o = o .rc
-field-sound s Key.Other f o = tt
+-- the first three keys hold strings, and there are ten
+string-key : (k : Key) → indexOf k < 3 → (2 ≤ typeFor k) × (typeFor k ≤ 3)
+unfolding indexOf typeFor
+string-key Key.Text h = (omega arith, omega arith)
+string-key Key.Data h = (omega arith, omega arith)
+string-key Key.Sha h = (omega arith, omega arith)
+string-key Key.Off h = absurd (omega arith)
+string-key Key.Len h = absurd (omega arith)
+string-key Key.Image h = absurd (omega arith)
+string-key Key.Upgrade h = absurd (omega arith)
+string-key Key.Slot h = absurd (omega arith)
+string-key Key.Rc h = absurd (omega arith)
+string-key Key.Other h = absurd (omega arith)
 
--- every field of a map that was read is sound
-WalkedSound : List ℕ → Walked → Type 0
-WalkedSound s Walked.Malformed = Unit {0}
-WalkedSound s (Map f) = Sound s f
+key-index : (k : Key) → indexOf k ≤ 9
+unfolding indexOf
+key-index Key.Text = omega arith
+key-index Key.Data = omega arith
+key-index Key.Sha = omega arith
+key-index Key.Off = omega arith
+key-index Key.Len = omega arith
+key-index Key.Image = omega arith
+key-index Key.Upgrade = omega arith
+key-index Key.Slot = omega arith
+key-index Key.Rc = omega arith
+key-index Key.Other = omega arith
 
--- every field after a pair is sound
-PairedSound : List ℕ → Paired → Type 0
-PairedSound s Paired.Malformed = Unit {0}
-PairedSound s (Next at f) = Sound s f
+-- three numbers stored from a place on: the second and the third are read back, and what stands beside them stays
+module _ (f : List ℕ) (at x y : ℕ) where
+  three-second : at + 2 < length f → getD (set (set (set f at 1) (at + 1) x) (at + 2) y) (at + 1) 0 ≡ x
+  three-second h =
+      getD-set-other (set (set f at 1) (at + 1) x) (at + 2) (at + 1) y 0 (λ e. omega arith)
+      ∙ getD-set-same (set f at 1) (at + 1) x 0 (simp length-set (omega arith))
 
--- a key and its value
-entered-sound : (s : List ℕ) (k : Key) (v : Value) (f : Fields) → Inside s v → Sound s f → WalkedSound s (entered k v f)
-unfolding entered WalkedSound
-entered-sound s k v f inside o =
-    let P : Walked → Type 0 = λ w. WalkedSound s w in
-    pick-case P (listed k) _ _
-    (λ h. pick-case P (isThere (fieldAt k f)) _ _
-    (λ i. tt)
-    (λ i. pick-case P (eqb (typeOf v) (typeFor k)) _ _
-    (λ e. with-sound s k (Is v) f (eqb-true (typeOf v) (typeFor k) e, inside) o)
-    (λ e. tt)))
-    (λ h. o)
+  three-third : at + 2 < length f → getD (set (set (set f at 1) (at + 1) x) (at + 2) y) (at + 2) 0 ≡ y
+  three-third h = getD-set-same (set (set f at 1) (at + 1) x) (at + 2) y 0 (simp length-set h)
 
--- a pair's end
-end-sound : (s : List ℕ) (next : ℕ) (w : Walked) → WalkedSound s w → PairedSound s (pairEnd next w)
-unfolding pairEnd WalkedSound PairedSound
-end-sound s next Walked.Malformed o = tt
-end-sound s next (Map f) o = o
+  three-other : (i : ℕ) → (i ≡ at → ⊥) → (i ≡ at + 1 → ⊥) → (i ≡ at + 2 → ⊥) → getD (set (set (set f at 1) (at + 1) x) (at + 2) y) i 0 ≡ getD f i 0
+  three-other i a b c =
+      getD-set-other (set (set f at 1) (at + 1) x) (at + 2) i y 0 c
+      ∙ getD-set-other (set f at 1) (at + 1) i x 0 b
+      ∙ getD-set-other f at i 1 0 a
 
--- a pair's value
-value-sound : (s : List ℕ) (at : ℕ) (k : Key) (f : Fields) (i : Item) → ItemWithin s at i → Sound s f → PairedSound s (pairValue k f i)
-unfolding pairValue PairedSound
-value-sound s at k f Item.Malformed w o = tt
-value-sound s at k f (Item.Is v next) w o = end-sound s next (entered k v f) (entered-sound s k v f (w .2) o)
+-- a value stored under a key of its type
+stored-sound : (s f : List ℕ) (k : Key) (v : Value) → typeOf v ≡ typeFor k → Inside s v → Sound s f → Sound s (stored k v f)
+unfolding stored
+stored-sound s f k v type within o =
+    record {
+      size = simp length-set (o .size);
+      inside = λ i h. elim (decLe i (indexOf k)) [
+        | yes a ↦ elim (decLe (indexOf k) i) [
+          | yes b ↦
+              let same : i ≡ indexOf k = omega arith in
+              let room : placeOf k + 2 < length f = omega (arith, key-index k, o .size) in
+              let small : indexOf k < 3 = omega arith in
+              rw (same, three-second f (placeOf k) (firstOf v) (secondOf v) room, three-third f (placeOf k) (firstOf v) (secondOf v) room)
+              (string-inside s v (typeFor k) (string-key k small .0) (string-key k small .1) type within)
+          | no b ↦ beside i h (λ e. omega arith)
+        ]
+        | no a ↦ beside i h (λ e. omega arith)
+      ];
+    }
+  where
+    beside : (i : ℕ) → i < 3 → (i ≡ indexOf k → ⊥)
+        → getD (set (set (set f (placeOf k) 1) (placeOf k + 1) (firstOf v)) (placeOf k + 2) (secondOf v)) (3 * i + 1) 0
+        + getD (set (set (set f (placeOf k) 1) (placeOf k + 1) (firstOf v)) (placeOf k + 2) (secondOf v)) (3 * i + 2) 0
+        ≤ length s
+    beside i h e =
+        rw (
+          three-other f (placeOf k) (firstOf v) (secondOf v) (3 * i + 1) (λ p. e (omega arith)) (λ p. e (omega arith)) (λ p. e (omega arith)),
+          three-other f (placeOf k) (firstOf v) (secondOf v) (3 * i + 2) (λ p. e (omega arith)) (λ p. e (omega arith)) (λ p. e (omega arith)),
+        )
+        (o .inside i h)
 
--- a pair after the head of its key
-after-sound : (kind : Kind) (s : List ℕ) (f : Fields) (h : Head) → Sound s f → PairedSound s (pairAfter kind s f h)
-unfolding pairAfter PairedSound
+-- a pair
+entered-sound : (s f : List ℕ) (k : Key) (v : Value) (next : ℕ) → Inside s v → Sound s f → FoundSound s (entered k v next f)
+unfolding entered FoundSound
+entered-sound s f k v next within o =
+    pick-case (FoundSound s) (not (listed k)) _ _ (λ h. o)
+    (λ h. pick-case (FoundSound s) (there k f) _ _ (λ g. tt)
+    (λ g. pick-case (FoundSound s) (not (eqb (typeOf v) (typeFor k))) _ _ (λ t. tt)
+    (λ t. stored-sound s f k v (eqb-true _ _ (not-false _ t)) within o)))
+
+valued-sound : (s f : List ℕ) (k : Key) (at : ℕ) (i : Item) → ItemWithin s at i → Sound s f → FoundSound s (valued k f i)
+unfolding valued FoundSound
+valued-sound s f k at Item.Malformed w o = tt
+valued-sound s f k at (Item.Is v next) w o = entered-sound s f k v next (w .2) o
+
+keyed-sound : (kind : Kind) (s f : List ℕ) (h : Head) → Sound s f → FoundSound s (keyed kind s f h)
+unfolding keyed FoundSound
+keyed-sound kind s f Head.Malformed o = tt
+keyed-sound kind s f (Head.Is major n at) o =
+    pick-case (FoundSound s) (not (eqb major 3)) _ _ (λ h. tt)
+    (λ h. pick-case (FoundSound s) (ltb (length s - at) n) _ _ (λ g. tt)
+    (λ g. valued-sound s f (keyOf kind (take n (drop at s))) (at + n) (itemAt s (at + n)) (item-within s (at + n)) o))
+
+-- pairs in a row
+then-sound : (s : List ℕ) (w : Found) (go : ℕ → List ℕ → Found) → FoundSound s w → ((at : ℕ) (f : List ℕ) → Sound s f → FoundSound s (go at f)) → FoundSound s (andThen w go)
+unfolding andThen FoundSound
+then-sound s malformed go o each = tt
+then-sound s (upTo at f) go o each = each at f o
+
+pairs-sound : (kind : Kind) (s : List ℕ) (n at : ℕ) (f : List ℕ) → Sound s f → FoundSound s (pairs kind s n at f)
+unfolding pairs pairAt FoundSound
+pairs-sound kind s zero at f o = o
+pairs-sound kind s (suc n) at f o =
+    then-sound s (pairAt kind s at f) (λ at′ f′. pairs kind s n at′ f′) (keyed-sound kind s f (headAt s at) o) (λ at′ f′ o′. pairs-sound kind s n at′ f′ o′)
+
+-- a map
+after-sound : (kind : Kind) (s f : List ℕ) (h : Head) → Sound s f → FoundSound s (mapAfter kind s f h)
+unfolding mapAfter FoundSound
 after-sound kind s f Head.Malformed o = tt
-after-sound kind s f (Head.Is major n at) o =
-    let P : Paired → Type 0 = λ p. PairedSound s p in
-    pick-case P (not (eqb major 3)) _ _
-    (λ h. tt)
-    (λ h. pick-case P (ltb (length s - at) n) _ _
-    (λ i. tt)
-    (λ i. value-sound s (at + n) (keyOf kind (take n (drop at s))) f (itemAt s (at + n)) (item-within s (at + n)) o))
+after-sound kind s f (Head.Is major n at) o = pick-case (FoundSound s) (eqb major 5) _ _ (λ h. pairs-sound kind s n at f o) (λ h. tt)
 
--- what follows a pair
-go-sound : (s : List ℕ) (p : Paired) (go : ℕ → Fields → Walked) → PairedSound s p → ((at : ℕ) (f : Fields) → Sound s f → WalkedSound s (go at f)) → WalkedSound s (afterPair p go)
-unfolding afterPair PairedSound WalkedSound
-go-sound s Paired.Malformed go o each = tt
-go-sound s (Next at f) go o each = each at f o
+-- of a packet's map
+unfoldable MapSound : List ℕ → Option (List ℕ) → Type 0
+MapSound s none = Unit {0}
+MapSound s (some f) = Sound s f
 
--- a walk
-walk-sound : (kind : Kind) (s : List ℕ) (n at : ℕ) (f : Fields) → Sound s f → WalkedSound s (walk kind s n at f)
-unfolding walk WalkedSound pairAt
-walk-sound kind s zero at f o = pick-case (λ w. WalkedSound s w) (eqb at (length s)) _ _ (λ h. o) (λ h. tt)
-walk-sound kind s (suc n) at f o = go-sound s (pairAt kind s at f) (λ at′ f′. walk kind s n at′ f′) (after-sound kind s f (headAt s at) o) (λ at′ f′ o′. walk-sound kind s n at′ f′ o′)
+ending-sound : (s : List ℕ) (end : ℕ) (w : Found) → FoundSound s w → MapSound s (endingAt end w)
+unfolding endingAt FoundSound MapSound
+ending-sound s end malformed o = tt
+ending-sound s end (upTo at f) o = pick-case (MapSound s) (eqb at end) _ _ (λ h. o) (λ h. tt)
 
--- a map after its head
-head-sound : (kind : Kind) (s : List ℕ) (h : Head) → WalkedSound s (mapAfter kind s h)
-unfolding mapAfter WalkedSound
-head-sound kind s Head.Malformed = tt
-head-sound kind s (Head.Is major n at) = pick-case (λ w. WalkedSound s w) (eqb major 5) _ _ (λ h. walk-sound kind s n at nothing (nothing-sound s)) (λ h. tt)
+map-sound : (kind : Kind) (s : List ℕ) (from : ℕ) → MapSound s (mapFrom kind s from)
+unfolding mapFrom mapAt MapSound
+map-sound kind s from =
+    pick-case (MapSound s) (eqb (length s) from) _ _ (λ h. nothing-sound s)
+    (λ h. ending-sound s (length s) (mapAt kind s from nothing) (after-sound kind s nothing (headAt s from) (nothing-sound s)))
 
--- a packet's map
-map-sound : (kind : Kind) (s : List ℕ) (from : ℕ) → WalkedSound s (mapFrom kind s from)
-unfolding mapFrom WalkedSound
-map-sound kind s from = pick-case (λ w. WalkedSound s w) (eqb (length s) from) _ _ (λ h. nothing-sound s) (λ h. head-sound kind s (headAt s from))
+-- the string under a key of a map that was read lies within its bytes
+run-sound : (s f : List ℕ) (k : Key) → indexOf k < 3 → Sound s f → Within s (runIn f k)
+unfolding runIn
+run-sound s f k h o = pick-case (Within s) (there k f) _ _ (λ t. o .inside (indexOf k) h) (λ t. tt)
 
--- every field of a map that was read
-pub map-fields : (kind : Kind) (s : List ℕ) (from : ℕ) (f : Fields) → mapFrom kind s from ≡ Map f → Sound s f
-unfolding WalkedSound
-map-fields kind s from f e = rw e at (map-sound kind s from)
-
--- one field of a map that was read, by its key
-map-field : (kind : Kind) (s : List ℕ) (from : ℕ) (f : Fields) (k : Key) (v : Value) → mapFrom kind s from ≡ Map f → fieldAt k f ≡ Is v → (typeOf v ≡ typeFor k) × Inside s v
-map-field kind s from f k v e there = rw there at (field-sound s k f (map-fields kind s from f e))
-
--- its type is the one listed for its key
-pub map-type : (kind : Kind) (s : List ℕ) (from : ℕ) (f : Fields) (k : Key) (v : Value) → mapFrom kind s from ≡ Map f → fieldAt k f ≡ Is v → typeOf v ≡ typeFor k
-map-type kind s from f k v e there = map-field kind s from f k v e there .0
-
--- a string lies within the bytes
-pub map-inside : (kind : Kind) (s : List ℕ) (from : ℕ) (f : Fields) (k : Key) (v : Value) → mapFrom kind s from ≡ Map f → fieldAt k f ≡ Is v → Inside s v
-map-inside kind s from f k v e there = map-field kind s from f k v e there .1
+pub map-run : (kind : Kind) (s : List ℕ) (from : ℕ) (f : List ℕ) → mapFrom kind s from ≡ some f → (k : Key) → indexOf k < 3 → Within s (runIn f k)
+unfolding MapSound
+map-run kind s from f e k h = run-sound s f k h (rw e at (map-sound kind s from))

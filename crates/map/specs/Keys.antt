@@ -1,7 +1,9 @@
 -- The known keys of each kind of map, and the type that each has.
 -- Assumes nothing.
 use Prim.Native.Nat.{ℕ}
+use mathlib.Core.Bool.{Bool, not}
 use mathlib.Core.List.{List, [], _∷_}
+use lib.Dec.{eqb}
 use Rattle.laws.specs.Choice.{pick}
 use Rattle.laws.specs.Bytes.{same}
 use Rattle.cbor.specs.declared.Value.{Value}
@@ -79,3 +81,7 @@ typeFor Key.Upgrade = 20
 typeFor Key.Slot = 0
 typeFor Key.Rc = 0
 typeFor Key.Other = 99
+
+-- a key is one of the known ones: it has a type
+abbrev pub listed : Key → Bool
+listed k = not (eqb (typeFor k) 99)

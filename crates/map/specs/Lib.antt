@@ -1,4 +1,4 @@
 pub mod Keys
+pub mod Fields
 pub mod Walk
-pub mod Steps
-pub mod Sound
+pub mod Contract

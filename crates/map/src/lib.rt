@@ -2,14 +2,17 @@
 use cbor::Head;
 use cbor::Item;
 use cbor::Value;
+use laws::Number;
+use laws::Run;
 ghost use mathlib.Core.Path.{_≡_};
 ghost use Prim.Native.Nat.{_+_, _≤_};
 ghost use lib.ListN.{length, take, drop};
 ghost use Rattle.cbor.specs.Read.{itemAt};
 ghost use Rattle.laws.specs.Bytes.{same};
 ghost use Rattle.map.specs.Keys.{keyOf, typeOf, typeFor};
-ghost use Rattle.map.specs.Walk.{nothing, fieldAt, withField, isThere, listed, mapFrom};
-ghost use Rattle.map.specs.Steps.{secondName, readValue, readAt};
+ghost use Rattle.map.specs.Fields.{placeOf, nothing, flagNumber, firstOf, secondOf, stored, numberIn, runIn, flagIn};
+ghost use Rattle.map.specs.Walk.{entered, valued, pairAt, pairs, mapAt, mapFrom};
+ghost use Rattle.map.specs.Contract.{laterName, Finds, Reads};
 
 // Whose map it is: what differs is which keys are known.
 pub enum Kind {
@@ -34,42 +37,9 @@ pub enum Key {
     Other,
 }
 
-// What has been read for a known key.
-pub enum Field {
-    Absent,
-    Is(Value),
-}
-
-// The fields of a map, one for each known key.
-pub struct Fields {
-    // "d" of an echo, "r" of a reply
-    pub text: Field,
-    // "data" of an upload
-    pub chunk: Field,
-    pub sha: Field,
-    pub off: Field,
-    pub len: Field,
-    pub image: Field,
-    pub upgrade: Field,
-    pub slot: Field,
-    pub rc: Field,
-}
-
-// One pair of a map as it stands: its key, its value and the place after it.
-pub enum Pair {
-    Is { key: Key, value: Value, next: usize },
-    Malformed,
-}
-
-// One pair of a map, entered: the place after it and the fields so far. The definitions speak of it.
-pub enum Paired {
-    Next { at: usize, fields: Fields },
-    Malformed,
-}
-
-// A map, read.
+// How far a walk came: the place after what it read, or that this is malformed.
 pub enum Walked {
-    Map(Fields),
+    To(usize),
     Malformed,
 }
 
@@ -85,7 +55,7 @@ fn name_is(s: &[u8], start: usize, len: usize, name: &[u8]) -> bool
 // The upload's key of this name, where it is none of the first three.
 fn upload_later(s: &[u8], start: usize, len: usize) -> Key
     requires { ⌜ start + len ≤ length (now s) ⌝ }
-    ensures { λ r. ⌜ r ≡ secondName (take len (drop start (now (s .entry)))) ⌝ }
+    ensures { λ r. ⌜ r ≡ laterName (take len (drop start (now (s .entry)))) ⌝ }
 {
     if name_is(s, start, len, b"image") {
         return Key::Image;
@@ -195,190 +165,108 @@ fn type_for(k: Key) -> u8
     }
 }
 
-// The key is one of the known ones: another has no type below 99.
-fn is_listed(k: Key) -> bool
-    ensures { λ r. ⌜ r ≡ listed k ⌝ }
-{
-    type_for(k) < 99
-}
-
-// The field of a key.
-fn field_at(k: Key, f: Fields) -> Field
-    ensures { λ r. ⌜ r ≡ fieldAt k f ⌝ }
+// Where a key's three numbers begin among a map's fields.
+fn place_of(k: Key) -> usize
+    ensures { λ r. ⌜ (r ≡ placeOf k) × (r ≤ 27) ⌝ }
 {
     match k {
-        Key::Text => f.text,
-        Key::Data => f.chunk,
-        Key::Sha => f.sha,
-        Key::Off => f.off,
-        Key::Len => f.len,
-        Key::Image => f.image,
-        Key::Upgrade => f.upgrade,
-        Key::Slot => f.slot,
-        Key::Rc => f.rc,
-        Key::Other => Field::Absent,
+        Key::Text => 0,
+        Key::Data => 3,
+        Key::Sha => 6,
+        Key::Off => 9,
+        Key::Len => 12,
+        Key::Image => 15,
+        Key::Upgrade => 18,
+        Key::Slot => 21,
+        Key::Rc => 24,
+        Key::Other => 27,
     }
 }
 
-// The field of a key has been read.
-fn is_there(k: Key, f: Fields) -> bool
-    ensures { λ r. ⌜ r ≡ isThere (fieldAt k f) ⌝ }
+// False or true as a number.
+fn flag_number(b: bool) -> u64
+    ensures { λ r. ⌜ r ≡ flagNumber b ⌝ }
 {
-    let field = field_at(k, f);
-    let Field::Is(_) = field else {
-        return false;
-    };
-    true
+    if b {
+        return 1;
+    }
+    0
 }
 
-// The fields with this one for a key.
-fn with_field(k: Key, v: Field, f: Fields) -> Fields
-    ensures { λ r. ⌜ r ≡ withField k v f ⌝ }
+// The first number of a value.
+fn first_of(v: Value) -> u64
+    ensures { λ r. ⌜ r ≡ firstOf v ⌝ }
 {
-    let text = f.text;
-    let chunk = f.chunk;
-    let sha = f.sha;
-    let off = f.off;
-    let len = f.len;
-    let image = f.image;
-    let upgrade = f.upgrade;
-    let slot = f.slot;
-    let rc = f.rc;
-    match k {
-        Key::Text => Fields {
-            text: v,
-            chunk,
-            sha,
-            off,
-            len,
-            image,
-            upgrade,
-            slot,
-            rc,
-        },
-        Key::Data => Fields {
-            text,
-            chunk: v,
-            sha,
-            off,
-            len,
-            image,
-            upgrade,
-            slot,
-            rc,
-        },
-        Key::Sha => Fields {
-            text,
-            chunk,
-            sha: v,
-            off,
-            len,
-            image,
-            upgrade,
-            slot,
-            rc,
-        },
-        Key::Off => Fields {
-            text,
-            chunk,
-            sha,
-            off: v,
-            len,
-            image,
-            upgrade,
-            slot,
-            rc,
-        },
-        Key::Len => Fields {
-            text,
-            chunk,
-            sha,
-            off,
-            len: v,
-            image,
-            upgrade,
-            slot,
-            rc,
-        },
-        Key::Image => Fields {
-            text,
-            chunk,
-            sha,
-            off,
-            len,
-            image: v,
-            upgrade,
-            slot,
-            rc,
-        },
-        Key::Upgrade => Fields {
-            text,
-            chunk,
-            sha,
-            off,
-            len,
-            image,
-            upgrade: v,
-            slot,
-            rc,
-        },
-        Key::Slot => Fields {
-            text,
-            chunk,
-            sha,
-            off,
-            len,
-            image,
-            upgrade,
-            slot: v,
-            rc,
-        },
-        Key::Rc => Fields {
-            text,
-            chunk,
-            sha,
-            off,
-            len,
-            image,
-            upgrade,
-            slot,
-            rc: v,
-        },
-        Key::Other => f,
+    match v {
+        Value::Unsigned(n) => n,
+        Value::Negative(n) => n,
+        Value::Bytes { start, len: _ } => start as u64,
+        Value::Text { start, len: _ } => start as u64,
+        Value::Flag(b) => flag_number(b),
+        Value::Null => 0,
     }
 }
 
-// The fields take a key and its value: a known key comes for the first time, with its type.
-fn takes(k: Key, v: Value, f: Fields) -> bool
-    ensures { λ r. ⌜ r ≡ Rattle.map.specs.Steps.takes k v f ⌝ }
+// The second number of a value.
+fn second_of(v: Value) -> u64
+    ensures { λ r. ⌜ r ≡ secondOf v ⌝ }
 {
-    if is_listed(k) {
-        if is_there(k, f) {
-            return false;
-        }
-        return type_of(v) == type_for(k);
+    match v {
+        Value::Unsigned(_) => 0,
+        Value::Negative(_) => 0,
+        Value::Bytes { start: _, len } => len as u64,
+        Value::Text { start: _, len } => len as u64,
+        Value::Flag(_) => 0,
+        Value::Null => 0,
     }
-    true
 }
 
-// The value at a place of s, under a key.
-fn pair_value(k: Key, s: &[u8], at: usize) -> Pair
-    ensures { λ r. ⌜ r ≡ readValue k (itemAt (now (s .entry)) at) ⌝ }
+// Stores a value under a key.
+fn store(k: Key, v: Value, f: &mut [u64; 30])
+    ensures { λ _. ⌜ now (f .exit) ≡ stored k v (now (f .entry)) ⌝ }
+{
+    let at = place_of(k);
+    let first = first_of(v);
+    let second = second_of(v);
+    f[at] = 1;
+    f[at + 1] = first;
+    f[at + 2] = second;
+}
+
+// Enters a pair that ends before place next: a known key comes for the first time and with its type, another key is skipped.
+fn enter(k: Key, v: Value, next: usize, f: &mut [u64; 30]) -> Walked
+    ensures { λ r. ⌜ Finds (entered k v next (now (f .entry))) r (now (f .exit)) ⌝ }
+{
+    let wanted = type_for(k);
+    if wanted == 99 {
+        return Walked::To(next);
+    }
+    let at = place_of(k);
+    if f[at] != 0 {
+        return Walked::Malformed;
+    }
+    let given = type_of(v);
+    if given != wanted {
+        return Walked::Malformed;
+    }
+    store(k, v, f);
+    Walked::To(next)
+}
+
+// Reads the value at a place of s, and enters it under a key.
+fn pair_value(k: Key, s: &[u8], at: usize, f: &mut [u64; 30]) -> Walked
+    ensures { λ r. ⌜ Finds (valued k (now (f .entry)) (itemAt (now (s .entry)) at)) r (now (f .exit)) ⌝ }
 {
     let item = cbor::item_at(s, at);
     let Item::Is { value, next } = item else {
-        return Pair::Malformed;
+        return Walked::Malformed;
     };
-    Pair::Is {
-        key: k,
-        value,
-        next,
-    }
+    enter(k, value, next, f)
 }
 
-// The pair at a place of s.
-fn pair_at(kind: Kind, s: &[u8], at: usize) -> Pair
-    ensures { λ r. ⌜ r ≡ readAt kind (now (s .entry)) at ⌝ }
+// Reads and enters the pair at a place of s.
+fn pair_at(kind: Kind, s: &[u8], at: usize, f: &mut [u64; 30]) -> Walked
+    ensures { λ r. ⌜ Finds (pairAt kind (now (s .entry)) at (now (f .entry))) r (now (f .exit)) ⌝ }
 {
     let head = cbor::head_at(s, at);
     let Head::Is {
@@ -387,72 +275,41 @@ fn pair_at(kind: Kind, s: &[u8], at: usize) -> Pair
         next,
     } = head
     else {
-        return Pair::Malformed;
+        return Walked::Malformed;
     };
     if major != 3 {
-        return Pair::Malformed;
+        return Walked::Malformed;
     }
     let left = (s.len() - next) as u64;
     if left < argument {
-        return Pair::Malformed;
+        return Walked::Malformed;
     }
     let len = argument as usize;
     let key = key_of(kind, s, next, len);
-    pair_value(key, s, next + len)
+    pair_value(key, s, next + len, f)
 }
 
-// The pairs of s from a place on, n of them, and nothing after them.
-fn walk(kind: Kind, s: &[u8], n: u64, from: usize) -> Walked
-    ensures { λ r. ⌜ r ≡ Rattle.map.specs.Walk.walk kind (now (s .entry)) n from nothing ⌝ }
+// Reads and enters n pairs of s from a place on.
+fn walk(kind: Kind, s: &[u8], n: u64, from: usize, f: &mut [u64; 30]) -> Walked
+    ensures { λ r. ⌜ Finds (pairs kind (now (s .entry)) n from (now (f .entry))) r (now (f .exit)) ⌝ }
 {
     let mut left = n;
     let mut at = from;
-    let mut fields = Fields {
-        text: Field::Absent,
-        chunk: Field::Absent,
-        sha: Field::Absent,
-        off: Field::Absent,
-        len: Field::Absent,
-        image: Field::Absent,
-        upgrade: Field::Absent,
-        slot: Field::Absent,
-        rc: Field::Absent,
-    };
     while 0 < left {
-        let pair = pair_at(kind, s, at);
-        let Pair::Is { key, value, next } = pair else {
+        let pair = pair_at(kind, s, at, f);
+        let Walked::To(next) = pair else {
             return Walked::Malformed;
         };
-        if !takes(key, value, fields) {
-            return Walked::Malformed;
-        }
-        fields = with_field(key, Field::Is(value), fields);
         at = next;
         left -= 1;
     }
-    if at == s.len() {
-        return Walked::Map(fields);
-    }
-    Walked::Malformed
+    Walked::To(at)
 }
 
-// The map of a packet whose payload begins at a place of s.
-pub fn map_from(kind: Kind, s: &[u8], from: usize) -> Walked
-    ensures { λ r. ⌜ r ≡ mapFrom kind (now (s .entry)) from ⌝ }
+// Reads the map at a place of s, whatever follows it: its known pairs are entered.
+pub fn map_at(kind: Kind, s: &[u8], from: usize, f: &mut [u64; 30]) -> Walked
+    ensures { λ r. ⌜ Finds (mapAt kind (now (s .entry)) from (now (f .entry))) r (now (f .exit)) ⌝ }
 {
-    if s.len() == from {
-        return Walked::Map(Fields {
-            text: Field::Absent,
-            chunk: Field::Absent,
-            sha: Field::Absent,
-            off: Field::Absent,
-            len: Field::Absent,
-            image: Field::Absent,
-            upgrade: Field::Absent,
-            slot: Field::Absent,
-            rc: Field::Absent,
-        });
-    }
     let head = cbor::head_at(s, from);
     let Head::Is {
         major,
@@ -463,7 +320,58 @@ pub fn map_from(kind: Kind, s: &[u8], from: usize) -> Walked
         return Walked::Malformed;
     };
     if major == 5 {
-        return walk(kind, s, argument, next);
+        return walk(kind, s, argument, next, f);
     }
     Walked::Malformed
+}
+
+// Reads the map of a packet whose payload begins at a place of s into fields that are all 0; gives whether it is well formed.
+pub fn map_from(kind: Kind, s: &[u8], from: usize, f: &mut [u64; 30]) -> bool
+    requires { ⌜ now f ≡ nothing ⌝ }
+    ensures { λ r. ⌜ Reads (mapFrom kind (now (s .entry)) from) r (now (f .exit)) ⌝ }
+{
+    if s.len() == from {
+        return true;
+    }
+    let walked = map_at(kind, s, from, f);
+    let Walked::To(at) = walked else {
+        return false;
+    };
+    at == s.len()
+}
+
+// The number under a key.
+pub fn number_in(f: &[u64; 30], k: Key) -> Number
+    ensures { λ r. ⌜ r ≡ numberIn (now (f .entry)) k ⌝ }
+{
+    let at = place_of(k);
+    if f[at] == 0 {
+        return Number::Absent;
+    }
+    Number::Is(f[at + 1])
+}
+
+// The string under a key, bytes or text.
+pub fn run_in(f: &[u64; 30], k: Key) -> Run
+    ensures { λ r. ⌜ r ≡ runIn (now (f .entry)) k ⌝ }
+{
+    let at = place_of(k);
+    if f[at] == 0 {
+        return Run::Absent;
+    }
+    Run::At {
+        start: f[at + 1] as usize,
+        len: f[at + 2] as usize,
+    }
+}
+
+// The flag under a key; one that is left out is false.
+pub fn flag_in(f: &[u64; 30], k: Key) -> bool
+    ensures { λ r. ⌜ r ≡ flagIn (now (f .entry)) k ⌝ }
+{
+    let at = place_of(k);
+    if f[at] == 0 {
+        return false;
+    }
+    f[at + 1] == 1
 }

@@ -3,26 +3,24 @@
 use mathlib.Core.Path.{_≡_, refl, subst}
 use mathlib.Core.Bool.{false}
 use mathlib.Core.List.{List}
+use mathlib.Core.Option.{Option, none, some}
 use Prim.Native.Nat.{ℕ, _+_, _≤_, _<_}
 use native.Mathlib.Omega.{arith}
-use lib.Dec.{leb, eqb}
+use lib.Dec.{leb, eqb, lit<}
 use lib.ListN.{length, getD, drop}
 use borrow.Author.Tests.{leb-true, ltb-false, eqb-true}
+use Rattle.laws.specs.declared.Number.{Number}
+use Rattle.laws.specs.declared.Run.{Run}
 use Rattle.laws.specs.Bytes.{ofBe16}
+use Rattle.laws.specs.Parts.{Within}
 use Rattle.laws.proofs.Choice.{pick-case, both-true}
-use Rattle.cbor.specs.declared.Value.{Value}
 use Rattle.map.specs.declared.Kind.{Kind}
 use Rattle.map.specs.declared.Key.{Key}
-use Rattle.map.specs.declared.Field.{Field}
-use Rattle.map.specs.declared.Fields.{Fields}
-use Rattle.map.specs.declared.Walked.{Walked}
-use Rattle.map.specs.Sound.{FieldSound}
+use Rattle.map.specs.Fields.{indexOf, numberIn, runIn}
 use Rattle.map.specs.Walk.{mapFrom}
-use Rattle.map.proofs.Sound.{map-fields}
-use Rattle.slot.specs.declared.Number.{Number}
+use Rattle.map.proofs.Sound.{map-run}
 use Rattle.slot.specs.Plan.{above, largest}
 use Rattle.smp.specs.Packet.{sized}
-use Rattle.smp.specs.Request.{numberIn, runIn}
 use Rattle.smp.proofs.Headers.{two-bytes}
 use Rattle.host.specs.declared.Reply.{Reply}
 use Rattle.host.specs.Read.{Said, reply, refused, orZero, valuesOf, mapRead, isReply, readReply}
@@ -55,39 +53,34 @@ unfolding above orNone
 none-small Number.Absent e = omega arith
 none-small (Number.Is v) e = ltb-false 4294967295 v e
 
--- the string of a field of a map that was read ends inside the packet
-run-inside : (s : List ℕ) (k : Key) (f : Field) → FieldSound s k f → runStart (runIn f) + runLength (runIn f) ≤ length s
-unfolding runIn runStart runLength
-run-inside s k Field.Absent o = omega arith
-run-inside s k (Field.Is (Value.Unsigned n)) o = omega arith
-run-inside s k (Field.Is (Value.Negative n)) o = omega arith
-run-inside s k (Field.Is (Value.Bytes start len)) o = o .1
-run-inside s k (Field.Is (Value.Text start len)) o = o .1
-run-inside s k (Field.Is (Value.Flag b)) o = omega arith
-run-inside s k (Field.Is Value.Null) o = omega arith
+-- a text that lies within the packet ends inside it
+run-inside : (s : List ℕ) (x : Run) → Within s x → runStart x + runLength x ≤ length s
+unfolding runStart runLength
+run-inside s Run.Absent o = omega arith
+run-inside s (Run.At start len) o = o
 
 module _ (s : List ℕ) (high : getD s 4 0 < 256) (low : getD s 5 0 < 256) where
   -- of a reply's values, from its map's fields
-  values-small : (f : Fields) → mapFrom Kind.Reply s 8 ≡ Walked.Map f → length s ≡ 8 + ofBe16 (drop 2 s) → length s ≤ 65533 → SaidSmall (valuesOf s f)
-  unfolding valuesOf
+  values-small : (f : List ℕ) → mapFrom Kind.Reply s 8 ≡ some f → length s ≡ 8 + ofBe16 (drop 2 s) → length s ≤ 65533 → SaidSmall (valuesOf s f)
+  unfolding valuesOf indexOf
   values-small f e n l =
-      let inside = run-inside s Key.Text (f .text) (map-fields Kind.Reply s 8 f e .text) in
-      pick-case SaidSmall (above largest (numberIn (f .rc))) _ _ (λ g. never 10)
-      (λ g. pick-case SaidSmall (above largest (numberIn (f .off))) _ _ (λ h. never 10)
+      let inside = run-inside s (runIn f Key.Text) (map-run Kind.Reply s 8 f e Key.Text (lit< tt)) in
+      pick-case SaidSmall (above largest (numberIn f Key.Rc)) _ _ (λ g. never 10)
+      (λ g. pick-case SaidSmall (above largest (numberIn f Key.Off)) _ _ (λ h. never 10)
       (λ h. told _ (record {
         length = omega arith;
         group = omega (arith, two-bytes s 4);
-        rc = zero-small (numberIn (f .rc)) g;
-        off = none-small (numberIn (f .off)) h;
+        rc = zero-small (numberIn f Key.Rc) g;
+        off = none-small (numberIn f Key.Off) h;
         start = omega arith;
         run = omega arith;
       })))
 
   -- of a map
-  map-small : (w : Walked) → mapFrom Kind.Reply s 8 ≡ w → length s ≡ 8 + ofBe16 (drop 2 s) → length s ≤ 65533 → SaidSmall (mapRead s w)
+  map-small : (w : Option (List ℕ)) → mapFrom Kind.Reply s 8 ≡ w → length s ≡ 8 + ofBe16 (drop 2 s) → length s ≤ 65533 → SaidSmall (mapRead s w)
   unfolding mapRead
-  map-small Walked.Malformed e n l = never 10
-  map-small (Walked.Map f) e n l = values-small f e n l
+  map-small none e n l = never 10
+  map-small (some f) e n l = values-small f e n l
 
   -- of a packet
   pub reply-small : SaidSmall (readReply s)

@@ -2,38 +2,56 @@
 -- Assumes nothing.
 use mathlib.Core.Path.{_≡_, refl, sym, ap, subst, _∙_}
 use mathlib.Core.Bool.{Bool, true, false, not}
-use lib.Dec.{ltb, lit<, lit≤}
 use mathlib.Core.List.{List, [], _∷_}
 use Prim.Native.Nat.{ℕ, _+_, _≤_, _<_}
 use native.Mathlib.Omega.{arith}
+use lib.Dec.{ltb, lit<, lit≤}
 use lib.ListN.{length}
-use Rattle.slot.specs.declared.Slot.{Slot}
-use Rattle.slot.specs.Session.{regionOk, sessionOk}
-use Rattle.slot.specs.Act.{State, Act, done}
-use Rattle.slot.specs.History.{Fit}
-use Rattle.slot.proofs.Laws.{Region, region-bounds}
+use borrow.Author.Tests.{not-false}
 use Rattle.laws.proofs.Choice.{pick-case, both-true}
+use Rattle.refusal.specs.declared.Refusal.{Refusal}
+use Rattle.refusal.specs.Number.{numberOf}
+use Rattle.reason.specs.Rc.{rcOf}
 use Rattle.cbor.specs.Write.{beBytes, headOf}
+use Rattle.slot.specs.declared.Slot.{Slot}
+use Rattle.slot.specs.declared.Session.{Session}
+use Rattle.slot.specs.Session.{regionOk, sessionOk, State, stateOf, possible}
+use Rattle.slot.specs.Act.{Act, done}
+use Rattle.slot.specs.History.{Fit}
+use Rattle.slot.proofs.Laws.{region-bounds}
 use Rattle.smp.specs.declared.Header.{Header}
 use Rattle.smp.specs.declared.Reply.{Reply}
-use Rattle.smp.specs.Reply.{replyMap, replyPacket, replyBytes}
 use Rattle.smp.specs.declared.Reading.{Reading}
 use Rattle.smp.specs.Packet.{headerIn}
 use Rattle.smp.specs.Request.{readRequest}
-use Rattle.smp.specs.Steps.{Sayable}
-use Rattle.controller.specs.Doing.{replyFor, asksReset}
+use Rattle.smp.specs.Reply.{rcMap, replyMap, replyPacket, replyBytes}
+use Rattle.smp.specs.Contract.{Sayable}
+use Rattle.smp.proofs.Writing.{rc-length, placed-length, packet-length, rc-map, text-map}
 use Rattle.controller.specs.declared.Handled.{Handled}
 use Rattle.controller.specs.declared.Answer.{Answer}
 use Rattle.controller.specs.declared.Answer.the-variants.{Replied, ResetAsked, Refused}
-use Rattle.refusal.specs.declared.Refusal.{Refusal}
-use Rattle.refusal.specs.Number.{numberOf}
-use borrow.Author.Tests.{not-false}
-use Rattle.slot.specs.declared.Session.{Session}
-use Rattle.smp.proofs.Writing.{rc-length, placed-length, packet-length, rc-map, text-map}
-use Rattle.controller.proofs.Laws.{handle-impossible, reply-sayable}
-use Rattle.controller.specs.Handle.{Said, said, replied, resetAsked, refused, Outcome, outcome, keeping, possible, carried, answered, handle}
-use Rattle.controller.specs.Calls.{Call, actOn}
-use Rattle.controller.proofs.Calls.{call-acts, call-fit}
+use Rattle.controller.specs.Doing.{actFor, replyFor, asksReset}
+use Rattle.controller.specs.Handle.{
+  Said,
+  said,
+  replied,
+  resetAsked,
+  refused,
+  Outcome,
+  outcome,
+  Taking,
+  refusal,
+  request,
+  asked,
+  taking,
+  actBy,
+  bytesBy,
+  saidBy,
+  handled,
+  handle,
+}
+use Rattle.controller.proofs.Laws.{taking-impossible, handle-refused, reply-sayable}
+use Rattle.controller.proofs.Calls.{call-fit}
 use Rattle.port.specs.Records.{sessionOf, sessionNumbers}
 use Rattle.port.specs.Calls.{HandledC, handledBy, handledC}
 use Rattle.port.specs.Small.{Held32}
@@ -42,26 +60,25 @@ use Rattle.port.specs.Small.{Held32}
 fit-small : (slot : Slot) (st : State) (a : Act) → slot .size ≤ 1048576 → Held32 (st .session) → Fit slot (st .session) a → Held32 (done slot a st .session)
 unfolding done Fit
 fit-small slot st Act.keep h k f = k
-fit-small slot st (Act.append x) h k f = (k .0, omega (arith, f .2, k .0))
+fit-small slot st (Act.append off x) h k f = (k .0, omega (arith, f .3, k .0))
 fit-small slot st (Act.start l tagged tag x) h k f = (omega (arith, f .2), omega (arith, f .1, f .2))
 fit-small slot st Act.erase h k f = (omega arith, omega arith)
 fit-small slot st Act.end h k f = (omega arith, omega arith)
 
 -- so does a call that is possible
-pub call-small : (slot : Slot) (st : State) (p b : List ℕ) → possible slot st ≡ true → Held32 (st .session) → Held32 (handle slot st p b .state .session)
+call-small : (slot : Slot) (st : State) (p b : List ℕ) → possible slot st ≡ true → Held32 (st .session) → Held32 (handle slot st p b .state .session)
+unfolding handled
 call-small slot st p b h k =
-    let c : Call = record { packet = p; buffer = b } in
     let oks = both-true (regionOk slot (length (st .memory))) (sessionOk slot (st .session)) h in
-    subst (λ (s : State). Held32 (s .session)) (sym (call-acts slot st p b))
-    (fit-small slot st (actOn slot st c) (region-bounds slot (length (st .memory)) (oks .0) .within) k (call-fit slot st c (oks .1)))
+    fit-small slot st (actBy slot st p (taking slot st p b)) (region-bounds slot (length (st .memory)) (oks .0) .within) k (call-fit slot st p b)
 
 -- so does any call
-pub any-small : (slot : Slot) (st : State) (p b : List ℕ) → Held32 (st .session) → Held32 (handle slot st p b .state .session)
+any-small : (slot : Slot) (st : State) (p b : List ℕ) → Held32 (st .session) → Held32 (handle slot st p b .state .session)
 any-small slot st p b k = by-test (possible slot st) refl
   where
     by-test : (t : Bool) → possible slot st ≡ t → Held32 (handle slot st p b .state .session)
     by-test true e = call-small slot st p b e k
-    by-test false e = subst (λ (o : Outcome). Held32 (o .state .session)) (sym (handle-impossible slot st p b e)) k
+    by-test false e = subst (λ (o : Outcome). Held32 (o .state .session)) (sym (handle-refused slot st p b 1 (taking-impossible slot st p b e))) k
 
 -- a reply's length is small
 abbrev pub SaidSmall : Said → Type 0
@@ -80,56 +97,70 @@ head-nine m n =
 
 -- so has a reply that can be said
 bytes-small : (h : Header) (p : List ℕ) (r : Reply) (room : ℕ) → Sayable p r → length (replyBytes h p r room) < 4294967296
-unfolding replyBytes
+unfolding replyBytes replyMap
 bytes-small h p r room s =
-    pick-case (λ (x : List ℕ). length x < 4294967296) (ltb room (8 + length (replyMap p r))) _ _ (λ e. omega (arith, rc-length h p 7 (lit< tt))) (λ e. meant r s)
+    pick-case (λ (x : List ℕ). length x < 4294967296) (ltb room (8 + length (replyMap p r))) _ _ (λ e. omega (arith, rc-length h 7 (lit< tt))) (λ e. meant r s)
   where
     meant : (r : Reply) → Sayable p r → length (replyPacket h (replyMap p r)) < 4294967296
-    meant (Reply.Rc n) s = omega (arith, packet-length h (replyMap p (Reply.Rc n)), rc-map p n, head-nine 0 n)
+    meant (Reply.Refused why) s = omega (arith, packet-length h (rcMap (rcOf why)), rc-map (rcOf why), head-nine 0 (rcOf why))
+    meant Reply.Done s = omega (arith, rc-length h 0 (lit< tt))
     meant (Reply.Placed n) s = omega (arith, placed-length h p n s)
-    meant (Reply.Text start len) s = omega (arith, packet-length h (replyMap p (Reply.Text start len)), text-map p start len (s .0), head-nine 0 len, s .0, s .1)
+    meant (Reply.Text start len) s =
+        omega (arith, packet-length h (replyMap p (Reply.Text start len)), text-map p start len (s .0), head-nine 0 len, s .0, s .1)
 
 -- what any call says is small
-pub said-small : (slot : Slot) (st : State) (p b : List ℕ) → SaidSmall (handle slot st p b .says)
-unfolding handle answered carried
+said-small : (slot : Slot) (st : State) (p b : List ℕ) → SaidSmall (handle slot st p b .says)
+unfolding handled taking saidBy bytesBy actBy asked
 said-small slot st p b =
-    pick-case (λ (o : Outcome). SaidSmall (o .says)) (not (possible slot st)) (keeping 1 st b) _ (λ e. tt)
-    (λ e. pick-case (λ (o : Outcome). SaidSmall (o .says)) (ltb (length b) 32) (keeping 11 st b) _ (λ f. tt) (λ f. read (not-false (possible slot st) e) (readRequest p) refl))
+    let small : Taking → Type 0 = λ t. SaidSmall (handled slot st p b t .says) in
+    pick-case small (not (possible slot st)) _ _ (λ e. tt)
+    (λ e. pick-case small (ltb (length b) 32) _ _ (λ f. tt) (λ f. read (not-false (possible slot st) e) (readRequest p) refl))
   where
-    read : possible slot st ≡ true → (t : Reading) → readRequest p ≡ t → SaidSmall (answered slot st p b t .says)
+    read : possible slot st ≡ true → (t : Reading) → readRequest p ≡ t → SaidSmall (handled slot st p b (asked t) .says)
     read h Reading.NotARequest e = tt
     read h (Reading.Is r) e =
-        let n = bytes-small (headerIn p) p (replyFor slot (st .session) p r) (length b) (reply-sayable slot st p r h e) in
+        let n = bytes-small (headerIn p) p (replyFor slot st (done slot (actFor slot st p r) st) p r) (length b) (reply-sayable slot st p r h e) in
         pick-case SaidSmall (asksReset r) _ _ (λ f. n) (λ f. n)
 
 -- what the call gave and left, as the C call's own outcome
-pub handled-is : (m : List ℕ) (start size : ℕ) (s tag p b a : List ℕ) (h : Handled) (m′ b′ : List ℕ) (before : Session) → before ≡ sessionOf s tag
-    → outcome h m′ b′ ≡ handle (record { start = start; size = size }) (record { memory = m; session = before }) p b
-    → handledC m start size s tag p b a ≡ handledBy s tag a (outcome h m′ b′) (said (h .answer))
+pub handled-is : (m : List ℕ) (start size : ℕ) (s tag p b a : List ℕ) (h : Handled) (m′ tag′ b′ : List ℕ) (before : Session) → before ≡ sessionOf s
+    → outcome h m′ tag′ b′ ≡ handle (record { start = start; size = size }) (stateOf m tag before) p b
+    → handledC m start size s tag p b a ≡ handledBy s a (outcome h m′ tag′ b′) (said (h .answer))
 unfolding handledC
-handled-is m start size s tag p b a h m′ b′ before e f =
-    ap (λ (o : Outcome). handledBy s tag a o (o .says)) (sym (f ∙ ap (λ (k : Session). handle (record { start = start; size = size }) (record { memory = m; session = k }) p b) e))
+handled-is m start size s tag p b a h m′ tag′ b′ before e f =
+    ap (λ (o : Outcome). handledBy s a o (o .says)) (sym (f ∙ ap (λ (k : Session). handle (record { start = start; size = size }) (stateOf m tag k) p b) e))
 
 -- each answer, handed over
-pub handled-replied : (s tag a : List ℕ) (h : Handled) (m b : List ℕ) (n : ℕ) (s′ tag′ : List ℕ) → h .answer ≡ Replied n → s′ ≡ sessionNumbers (h .session) → tag′ ≡ h .session .tag
-    → _≡_ {A = HandledC} (record { result = 0; memory = m; session = s′; tag = tag′; reply = b; answer = n ∷ 0 ∷ [] }) (handledBy s tag a (outcome h m b) (said (h .answer)))
-unfolding handledBy
-handled-replied s tag a h m b n s′ tag′ e f g =
-    (λ i. record { result = 0; memory = m; session = f i; tag = g i; reply = b; answer = n ∷ 0 ∷ [] }) ∙ ap (λ (k : Answer). handledBy s tag a (outcome h m b) (said k)) (sym e)
+module _ (s a : List ℕ) (h : Handled) (m tag b : List ℕ) where
+  pub handled-replied : (n : ℕ) (s′ : List ℕ) → h .answer ≡ Replied n → s′ ≡ sessionNumbers (h .session)
+      → _≡_ {A = HandledC} (record { result = 0; memory = m; session = s′; tag = tag; reply = b; answer = n ∷ 0 ∷ [] })
+      (handledBy s a (outcome h m tag b) (said (h .answer)))
+  unfolding handledBy
+  handled-replied n s′ e f =
+      (λ i. record { result = 0; memory = m; session = f i; tag = tag; reply = b; answer = n ∷ 0 ∷ [] })
+      ∙ ap (λ (k : Answer). handledBy s a (outcome h m tag b) (said k)) (sym e)
 
-pub handled-reset : (s tag a : List ℕ) (h : Handled) (m b : List ℕ) (n : ℕ) (s′ tag′ : List ℕ) → h .answer ≡ ResetAsked n → s′ ≡ sessionNumbers (h .session) → tag′ ≡ h .session .tag
-    → _≡_ {A = HandledC} (record { result = 0; memory = m; session = s′; tag = tag′; reply = b; answer = n ∷ 1 ∷ [] }) (handledBy s tag a (outcome h m b) (said (h .answer)))
-unfolding handledBy
-handled-reset s tag a h m b n s′ tag′ e f g =
-    (λ i. record { result = 0; memory = m; session = f i; tag = g i; reply = b; answer = n ∷ 1 ∷ [] }) ∙ ap (λ (k : Answer). handledBy s tag a (outcome h m b) (said k)) (sym e)
+  pub handled-reset : (n : ℕ) (s′ : List ℕ) → h .answer ≡ ResetAsked n → s′ ≡ sessionNumbers (h .session)
+      → _≡_ {A = HandledC} (record { result = 0; memory = m; session = s′; tag = tag; reply = b; answer = n ∷ 1 ∷ [] })
+      (handledBy s a (outcome h m tag b) (said (h .answer)))
+  unfolding handledBy
+  handled-reset n s′ e f =
+      (λ i. record { result = 0; memory = m; session = f i; tag = tag; reply = b; answer = n ∷ 1 ∷ [] })
+      ∙ ap (λ (k : Answer). handledBy s a (outcome h m tag b) (said k)) (sym e)
 
-pub handled-refused : (s tag a : List ℕ) (h : Handled) (m b : List ℕ) (n : ℕ) (why : Refusal) → h .answer ≡ Refused why → n ≡ numberOf why
-    → _≡_ {A = HandledC} (record { result = n; memory = m; session = s; tag = tag; reply = b; answer = a }) (handledBy s tag a (outcome h m b) (said (h .answer)))
-unfolding handledBy
-handled-refused s tag a h m b n why e f =
-    (λ i. record { result = f i; memory = m; session = s; tag = tag; reply = b; answer = a }) ∙ ap (λ (k : Answer). handledBy s tag a (outcome h m b) (said k)) (sym e)
+  pub handled-refused : (n : ℕ) (why : Refusal) → h .answer ≡ Refused why → n ≡ numberOf why
+      → _≡_ {A = HandledC} (record { result = n; memory = m; session = s; tag = tag; reply = b; answer = a })
+      (handledBy s a (outcome h m tag b) (said (h .answer)))
+  unfolding handledBy
+  handled-refused n why e f =
+      (λ i. record { result = f i; memory = m; session = s; tag = tag; reply = b; answer = a })
+      ∙ ap (λ (k : Answer). handledBy s a (outcome h m tag b) (said k)) (sym e)
 
 -- what a call gave is small
-pub given-small : (slot : Slot) (st : State) (p b : List ℕ) (h : Handled) (m′ b′ : List ℕ) → outcome h m′ b′ ≡ handle slot st p b → Held32 (st .session) → Held32 (h .session) × SaidSmall (said (h .answer))
-given-small slot st p b h m′ b′ e k =
-    (subst (λ (o : Outcome). Held32 (o .state .session)) (sym e) (any-small slot st p b k), subst (λ (o : Outcome). SaidSmall (o .says)) (sym e) (said-small slot st p b))
+pub given-small : (slot : Slot) (st : State) (p b : List ℕ) (h : Handled) (m′ tag′ b′ : List ℕ) → outcome h m′ tag′ b′ ≡ handle slot st p b
+    → Held32 (st .session)
+    → Held32 (h .session) × SaidSmall (said (h .answer))
+given-small slot st p b h m′ tag′ b′ e k = (
+  subst (λ (o : Outcome). Held32 (o .state .session)) (sym e) (any-small slot st p b k),
+  subst (λ (o : Outcome). SaidSmall (o .says)) (sym e) (said-small slot st p b),
+)

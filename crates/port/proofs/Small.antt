@@ -72,7 +72,7 @@ SentSmall o = (n count : ℕ) → o .says ≡ sending.frameIs n count → (n ≤
 
 -- a body that can be sent takes at most 705 frames
 count-small : (b : ℕ) → b ≤ 65533 → frameCount b ≤ 705
-count-small b h = elim (decLe 89 b) [
+count-small b h = elim (decLe sending.severalFrom b) [
   | no n ↦ rw (count-one b (omega arith)) (omega arith)
   | yes l ↦ elim (decLe b 182) [
     | yes r ↦ rw (count-two b l r) (omega arith)

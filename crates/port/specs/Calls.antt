@@ -4,14 +4,12 @@ use Prim.Native.Nat.{ℕ}
 use mathlib.Core.Bool.{Bool, true, false, not}
 use mathlib.Core.List.{List, [], _∷_}
 use lib.Dec.{eqb}
-use lib.ListN.{length, replicate}
 use Rattle.laws.specs.Choice.{pick, both}
 use Rattle.reader.specs.declared.Reader.{Reader}
 use Rattle.reader.specs.Reader as reading
 use Rattle.sender.specs.Sender as sending
 use Rattle.slot.specs.declared.Slot.{Slot}
 use Rattle.slot.specs.Session as slots
-use Rattle.slot.specs.Act.{State}
 use Rattle.controller.specs.Handle as handling
 use Rattle.host.specs.Write as writing
 use Rattle.host.specs.Read as hearing
@@ -62,7 +60,7 @@ pub record ConfiguredC : Type 0 where
   pub tag : List ℕ
 
 unfoldable pub configuredBy : List ℕ → List ℕ → slots.Said → ConfiguredC
-configuredBy s tag (slots.ready slot) = record { result = 0; session = sessionNumbers slots.closed; tag = replicate 32 0 }
+configuredBy s tag (slots.ready slot) = record { result = 0; session = sessionNumbers slots.closed; tag = slots.noTag }
 configuredBy s tag (slots.refused n) = record { result = n; session = s; tag = tag }
 
 unfoldable pub configuredC : ℕ → ℕ → ℕ → List ℕ → List ℕ → ConfiguredC
@@ -78,19 +76,22 @@ pub record HandledC : Type 0 where
   pub answer : List ℕ
 
 -- a reply was written: the session record is that of the state after
-abbrev pub repliedC : ℕ → ℕ → State → List ℕ → HandledC
-repliedC n reset st b = record { result = 0; memory = st .memory; session = sessionNumbers (st .session); tag = st .session .tag; reply = b; answer = n ∷ reset ∷ [] }
+abbrev pub repliedC : ℕ → ℕ → slots.State → List ℕ → HandledC
+repliedC n reset st b =
+    record { result = 0; memory = st .memory; session = sessionNumbers (st .session); tag = st .tag; reply = b; answer = n ∷ reset ∷ [] }
 
-unfoldable pub handledBy : List ℕ → List ℕ → List ℕ → handling.Outcome → handling.Said → HandledC
-handledBy s tag a o (handling.replied n) = repliedC n 0 (o .state) (o .reply)
-handledBy s tag a o (handling.resetAsked n) = repliedC n 1 (o .state) (o .reply)
-handledBy s tag a o (handling.refused n) = record { result = n; memory = o .state .memory; session = s; tag = tag; reply = o .reply; answer = a }
+-- by what the request call said
+unfoldable pub handledBy : List ℕ → List ℕ → handling.Outcome → handling.Said → HandledC
+handledBy s a o (handling.replied n) = repliedC n 0 (o .state) (o .reply)
+handledBy s a o (handling.resetAsked n) = repliedC n 1 (o .state) (o .reply)
+handledBy s a o (handling.refused n) =
+    record { result = n; memory = o .state .memory; session = s; tag = o .state .tag; reply = o .reply; answer = a }
 
 unfoldable pub handledC : List ℕ → ℕ → ℕ → List ℕ → List ℕ → List ℕ → List ℕ → List ℕ → HandledC
 handledC m start size s tag p b a =
     let slot : Slot = record { start = start; size = size } in
-    let o : handling.Outcome = handling.handle slot (record { memory = m; session = sessionOf s tag }) p b in
-    handledBy s tag a o (o .says)
+    let o : handling.Outcome = handling.handle slot (slots.stateOf m tag (sessionOf s)) p b in
+    handledBy s a o (o .says)
 
 -- the request writers: the result, the output and *packet_len
 pub record WroteC : Type 0 where

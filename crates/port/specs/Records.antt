@@ -5,12 +5,12 @@ use mathlib.Core.Bool.{Bool, true, false, not}
 use mathlib.Core.List.{List, [], _∷_}
 use lib.Dec.{ltb, eqb}
 use lib.ListN.{getD}
+use Rattle.laws.specs.declared.Number.{Number}
+use Rattle.laws.specs.declared.Run.{Run}
 use Rattle.laws.specs.Choice.{pick}
 use Rattle.reader.specs.declared.Reader.{Reader}
 use Rattle.reader.specs.declared.Reader.the-variants.{Idle, Open}
-use Rattle.slot.specs.declared.Number.{Number}
 use Rattle.slot.specs.declared.Session.{Session}
-use Rattle.smp.specs.declared.Run.{Run}
 use Rattle.host.specs.declared.Reply.{Reply}
 
 -- a number as a flag: 0 is false
@@ -35,13 +35,13 @@ unfoldable pub readerNumbers : Reader → List ℕ
 readerNumbers Idle = 0 ∷ 0 ∷ 0 ∷ 0 ∷ []
 readerNumbers (Open total come first) = 1 ∷ total ∷ come ∷ first ∷ []
 
--- the session record by its numbers and its tag
-abbrev pub sessionFrom : ℕ → ℕ → ℕ → ℕ → List ℕ → Session
-sessionFrom running length place tagged tag = record { running = flagOf running; length = length; place = place; tagged = flagOf tagged; tag = tag }
+-- the session record by its numbers
+abbrev pub sessionFrom : ℕ → ℕ → ℕ → ℕ → Session
+sessionFrom running length place tagged = record { running = flagOf running; length = length; place = place; tagged = flagOf tagged }
 
--- the session record { open, length, place, tagged }, and its tag
-abbrev pub sessionOf : List ℕ → List ℕ → Session
-sessionOf s tag = sessionFrom (getD s 0 0) (getD s 1 0) (getD s 2 0) (getD s 3 0) tag
+-- the session record { open, length, place, tagged }
+abbrev pub sessionOf : List ℕ → Session
+sessionOf s = sessionFrom (getD s 0 0) (getD s 1 0) (getD s 2 0) (getD s 3 0)
 
 -- the numbers of a session record
 unfoldable pub sessionNumbers : Session → List ℕ

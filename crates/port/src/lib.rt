@@ -3,14 +3,14 @@
 use host::Heard;
 use host::Reply;
 use host::Written;
+use laws::Number;
+use laws::Run;
 use reader::Answer;
 use reader::Reader;
 use sender::Sent;
 use slot::Configured;
-use slot::Number;
 use slot::Session;
 use slot::Slot;
-use smp::Run;
 ghost use mathlib.Core.Path.{_≡_};
 ghost use mathlib.Core.Bool.{Bool};
 ghost use mathlib.Core.List.{List, [], _∷_};
@@ -123,9 +123,9 @@ fn number_of_flag(b: bool) -> u32
     0
 }
 
-// The session record out of its four numbers and its tag.
-fn session_from(running: u32, length: u32, place: u32, tagged: u32, tag: [u8; 32]) -> Session
-    ensures { λ r. ⌜ (r ≡ sessionFrom running length place tagged tag) × Held32 r ⌝ }
+// The session record out of its four numbers.
+fn session_from(running: u32, length: u32, place: u32, tagged: u32) -> Session
+    ensures { λ r. ⌜ (r ≡ sessionFrom running length place tagged) × Held32 r ⌝ }
 {
     let is_running = flag_of(running);
     let is_tagged = flag_of(tagged);
@@ -134,20 +134,17 @@ fn session_from(running: u32, length: u32, place: u32, tagged: u32, tag: [u8; 32
         length: length as usize,
         place: place as usize,
         tagged: is_tagged,
-        tag,
     }
 }
 
-// The session record goes to its four numbers and its tag.
-fn store_session(record: &mut [u32; 4], tag: &mut [u8; 32], session: Session)
+// The session record goes to its four numbers.
+fn store_session(record: &mut [u32; 4], session: Session)
     requires { ⌜ Held32 session ⌝ }
-    ensures { λ _. ⌜ (now («record» .exit) ≡ sessionNumbers session) × (now (tag .exit) ≡ session .tag) ⌝ }
+    ensures { λ _. ⌜ now («record» .exit) ≡ sessionNumbers session ⌝ }
 {
     let running = number_of_flag(session.running);
     let tagged = number_of_flag(session.tagged);
     *record = [running, session.length as u32, session.place as u32, tagged];
-    let bytes = session.tag;
-    *tag = bytes;
 }
 
 // Takes one request packet: see include/belagunthi.h.
@@ -164,19 +161,19 @@ pub extern "C" fn bg_handle(
 ) -> u32
     ensures { λ r. ⌜ record { result = r; memory = now (memory .exit); session = now («record» .exit); tag = now (tag .exit); reply = now (reply .exit); answer = now (answer .exit) } ≡ handledC (now (memory .entry)) start size (now («record» .entry)) (now (tag .entry)) (now (packet .entry)) (now (reply .entry)) (now (answer .entry)) ⌝ }
 {
-    let before = session_from(record[0], record[1], record[2], record[3], *tag);
+    let before = session_from(record[0], record[1], record[2], record[3]);
     let slot = Slot { start, size };
-    let handled = controller::handle_packet(slot, before, memory, packet, reply);
+    let handled = controller::handle_packet(slot, before, tag, memory, packet, reply);
     let said = handled.answer;
     let after = handled.session;
     match said {
         controller::Answer::Replied(n) => {
-            store_session(record, tag, after);
+            store_session(record, after);
             *answer = [n as u32, 0];
             return 0;
         }
         controller::Answer::ResetAsked(n) => {
-            store_session(record, tag, after);
+            store_session(record, after);
             *answer = [n as u32, 1];
             return 0;
         }

@@ -7,17 +7,25 @@ use mathlib.Core.List.{List, [], _∷_, _++_, append-assoc, append-nil}
 use Prim.Native.Nat.{ℕ, _+_, _-_, _≤_}
 use native.Mathlib.Nat.{add-zero}
 use native.Mathlib.Omega.{arith}
-use lib.ListN.{length, take, drop, replicate, length-append, length-drop, length-replicate, take-append-drop, replicate-append-replicate, drop-of-length-le}
+use lib.ListN.{
+  length,
+  take,
+  drop,
+  replicate,
+  length-append,
+  length-drop,
+  length-replicate,
+  take-append-drop,
+  replicate-append-replicate,
+  drop-of-length-le,
+}
 use lib.Seq.{take-at, drop-at, take-add, drop-drop, length-take-le, take-append-add, take-append-le, drop-append-add, drop-append-le}
 use Rattle.laws.specs.Bytes.{pasted}
 use Rattle.laws.proofs.Lists.{pasted-is, pasted-start, pasted-length, pasted-take, pasted-drop}
 use Rattle.slot.specs.declared.Slot.{Slot}
-use Rattle.slot.specs.Session.{regionOk, sessionOk, closed}
-use Rattle.slot.specs.declared.Upload.{Upload}
-use Rattle.slot.specs.Plan.{planOf}
-use Rattle.slot.specs.Act.{State, Act, keep, append, start, erase, end, blank, done, actOf}
-use Rattle.slot.specs.History.{Fit, History, begun, went, written, slotIn, Held, Demand, CutFrom, unbroken, Unbroken}
-use Rattle.slot.proofs.Fit.{planned-fit}
+use Rattle.slot.specs.Session.{regionOk, sessionOk, State, closed}
+use Rattle.slot.specs.Act.{Act, keep, append, start, erase, end, blank, done}
+use Rattle.slot.specs.History.{Fit, History, begun, went, written, slotIn, Held, Demand, CutFrom, Unbroken}
 use Rattle.slot.proofs.Laws.{region-bounds, session-bounds, session-is, session-closed}
 
 -- equal bytes without the first of them
@@ -29,7 +37,8 @@ drop-replicate k n v h =
     ∙ drop-at (replicate k v) (replicate (n - k) v) k (length-replicate k v)
 
 -- writing within a part of a list that was written itself
-pasted-within : (f : List ℕ) (a : ℕ) (t : List ℕ) (k : ℕ) (x : List ℕ) → a + length t ≤ length f → k + length x ≤ length t → pasted (pasted f a t) (a + k) x ≡ pasted f a (pasted t k x)
+pasted-within : (f : List ℕ) (a : ℕ) (t : List ℕ) (k : ℕ) (x : List ℕ) → a + length t ≤ length f → k + length x ≤ length t
+    → pasted (pasted f a t) (a + k) x ≡ pasted f a (pasted t k x)
 pasted-within f a t k x room h =
     let p = take a f in
     let q = drop (a + length t) f in
@@ -40,14 +49,24 @@ pasted-within f a t k x room h =
     ∙ ap (λ (i : ℕ). p ++ (pasted t k x ++ drop (a + i) f)) (sym same)
     ∙ sym (pasted-is f a (pasted t k x))
   where
-    inside : (p t q : List ℕ) (k : ℕ) (x : List ℕ) → k + length x ≤ length t → pasted (p ++ (t ++ q)) (length p + k) x ≡ p ++ (pasted t k x ++ q)
+    inside : (p t q : List ℕ) (k : ℕ) (x : List ℕ) → k + length x ≤ length t
+        → pasted (p ++ (t ++ q)) (length p + k) x ≡ p ++ (pasted t k x ++ q)
     inside p t q k x h =
         let e : length p + k + length x ≡ length p + (k + length x) = omega arith in
-        rw (pasted-is (p ++ (t ++ q)) (length p + k) x, pasted-is t k x, e, take-append-add p (t ++ q) k, drop-append-add p (t ++ q) (k + length x), take-append-le k t q (omega arith), drop-append-le (k + length x) t q h)
+        rw (
+          pasted-is (p ++ (t ++ q)) (length p + k) x,
+          pasted-is t k x,
+          e,
+          take-append-add p (t ++ q) k,
+          drop-append-add p (t ++ q) (k + length x),
+          take-append-le k t q (omega arith),
+          drop-append-le (k + length x) t q h,
+        )
         (simp append-assoc)
 
 -- writing at the start of such a part
-pasted-at-start : (f : List ℕ) (a : ℕ) (t x : List ℕ) → a + length t ≤ length f → length x ≤ length t → pasted (pasted f a t) a x ≡ pasted f a (x ++ drop (length x) t)
+pasted-at-start : (f : List ℕ) (a : ℕ) (t x : List ℕ) → a + length t ≤ length f → length x ≤ length t
+    → pasted (pasted f a t) a x ≡ pasted f a (x ++ drop (length x) t)
 pasted-at-start f a t x room h =
     ap (λ (i : ℕ). pasted (pasted f a t) i x) (sym (add-zero a))
     ∙ pasted-within f a t 0 x room (omega arith)
@@ -61,7 +80,10 @@ pasted-over f a t x room h =
     ∙ ap (λ (l : List ℕ). pasted f a l) (append-nil x)
 
 -- a memory that is as another outside the slot is that other with its own slot's bytes in the slot's place
-pub placed : (slot : Slot) (f m : List ℕ) → slot .start + slot .size ≤ length f → length m ≡ length f → take (slot .start) m ≡ take (slot .start) f → drop (slot .start + slot .size) m ≡ drop (slot .start + slot .size) f → (length (slotIn slot m) ≡ slot .size) × (m ≡ pasted f (slot .start) (slotIn slot m))
+placed : (slot : Slot) (f m : List ℕ) → slot .start + slot .size ≤ length f → length m ≡ length f
+    → take (slot .start) m ≡ take (slot .start) f
+    → drop (slot .start + slot .size) m ≡ drop (slot .start + slot .size) f
+    → (length (slotIn slot m) ≡ slot .size) × (m ≡ pasted f (slot .start) (slotIn slot m))
 placed slot f m room size below beyond =
     let a = slot .start in
     let s = slot .size in
@@ -75,13 +97,20 @@ placed slot f m room size below beyond =
     )
 
 -- the demand of a state whose memory is the first one with these bytes in the slot's place
-pub held-by : (slot : Slot) (first : State) (acts : List Act) (st : State) (t : List ℕ) → slot .start + slot .size ≤ length (first .memory) → length t ≡ slot .size → st .memory ≡ pasted (first .memory) (slot .start) t → sessionOk slot (st .session) ≡ true → (st .session .running ≡ true → take (st .session .place) t ≡ written acts) → (st .session .running ≡ true → drop (st .session .place) t ≡ replicate (slot .size - st .session .place) 255) → Held slot first acts st
+held-by : (slot : Slot) (first : State) (acts : List Act) (st : State) (t : List ℕ) → slot .start + slot .size ≤ length (first .memory)
+    → length t ≡ slot .size
+    → st .memory ≡ pasted (first .memory) (slot .start) t
+    → sessionOk slot (st .session) ≡ true
+    → (st .session .running ≡ true → take (st .session .place) t ≡ written acts)
+    → (st .session .running ≡ true → drop (st .session .place) t ≡ replicate (slot .size - st .session .place) 255)
+    → Held slot first acts st
 held-by slot first acts st t room n e possible joined after =
     let a = slot .start in
     let s = slot .size in
     let f = first .memory in
     let front : length (take a f) ≡ a = length-take-le a f (omega arith) in
-    let apart : st .memory ≡ take a f ++ (t ++ drop (a + s) f) = e ∙ pasted-is f a t ∙ ap (λ (i : ℕ). take a f ++ (t ++ drop (a + i) f)) n in
+    let apart : st .memory ≡ take a f ++ (t ++ drop (a + s) f) =
+    e ∙ pasted-is f a t ∙ ap (λ (i : ℕ). take a f ++ (t ++ drop (a + i) f)) n in
     let both : length (take a f ++ t) ≡ a + s = rw length-append (omega arith) in
     let whole : slotIn slot (st .memory) ≡ t =
     ap (λ (l : List ℕ). take s (drop a l)) apart
@@ -89,7 +118,9 @@ held-by slot first acts st t room n e possible joined after =
     ∙ take-at t (drop (a + s) f) s n in
     record {
       below = ap (λ (l : List ℕ). take a l) apart ∙ take-at (take a f) (t ++ drop (a + s) f) a front;
-      beyond = ap (λ (l : List ℕ). drop (a + s) l) (apart ∙ sym (append-assoc (take a f) t (drop (a + s) f))) ∙ drop-at (take a f ++ t) (drop (a + s) f) (a + s) both;
+      beyond =
+          ap (λ (l : List ℕ). drop (a + s) l) (apart ∙ sym (append-assoc (take a f) t (drop (a + s) f)))
+          ∙ drop-at (take a f ++ t) (drop (a + s) f) (a + s) both;
       size = ap length e ∙ pasted-length f a t (omega arith);
       possible = possible;
       joined = λ r. ap (λ (l : List ℕ). take (st .session .place) l) whole ∙ joined r;
@@ -113,7 +144,9 @@ begun-held slot first e =
     }
 
 -- a blank slot is the first memory with 255s in the slot's place
-blanked : (slot : Slot) (f m : List ℕ) (t : List ℕ) → slot .start + slot .size ≤ length f → length t ≡ slot .size → m ≡ pasted f (slot .start) t → blank slot m ≡ pasted f (slot .start) (replicate (slot .size) 255)
+blanked : (slot : Slot) (f m : List ℕ) (t : List ℕ) → slot .start + slot .size ≤ length f → length t ≡ slot .size
+    → m ≡ pasted f (slot .start) t
+    → blank slot m ≡ pasted f (slot .start) (replicate (slot .size) 255)
 unfolding blank
 blanked slot f m t room n e =
     let full : List ℕ = replicate (slot .size) 255 in
@@ -125,7 +158,9 @@ begun-with : (n : ℕ) (x : List ℕ) → length x ≤ n → length (x ++ drop (
 begun-with n x h = rw (length-append, length-drop, length-replicate) (omega arith)
 
 -- 255s that follow a place still do so after data was put there
-still-blank : (s : ℕ) (t : List ℕ) (n : ℕ) (x : List ℕ) → length t ≡ s → n + length x ≤ length t → drop n t ≡ replicate (s - n) 255 → drop (n + length x) (pasted t n x) ≡ replicate (s - (n + length x)) 255
+still-blank : (s : ℕ) (t : List ℕ) (n : ℕ) (x : List ℕ) → length t ≡ s → n + length x ≤ length t
+    → drop n t ≡ replicate (s - n) 255
+    → drop (n + length x) (pasted t n x) ≡ replicate (s - (n + length x)) 255
 still-blank s t n x full room e =
     let less : s - n - length x ≡ s - (n + length x) = omega arith in
     (rw add-zero at (pasted-drop t n x 0 room))
@@ -135,21 +170,24 @@ still-blank s t n x full room e =
     ∙ ap (λ (i : ℕ). replicate i 255) less
 
 -- one act more: what was demanded before it holds after it
-pub step-held : (slot : Slot) (first : State) (acts : List Act) (st : State) (a : Act) → regionOk slot (length (first .memory)) ≡ true → Held slot first acts st → Fit slot (st .session) a → Held slot first (a ∷ acts) (done slot a st)
+pub step-held : (slot : Slot) (first : State) (acts : List Act) (st : State) (a : Act) → regionOk slot (length (first .memory)) ≡ true
+    → Held slot first acts st
+    → Fit slot (st .session) a
+    → Held slot first (a ∷ acts) (done slot a st)
 unfolding Fit written done blank
 step-held slot first acts st keep region h fit =
     record { below = h .below; beyond = h .beyond; size = h .size; possible = h .possible; joined = h .joined; blank-after = h .blank-after }
-step-held slot first acts st (append x) region h fit =
+step-held slot first acts st (append off x) region h fit =
     let r = region-bounds slot (length (first .memory)) region in
     let b = session-bounds slot (st .session) (h .possible) (fit .0) in
     let p = placed slot (first .memory) (st .memory) (r .inside) (h .size) (h .below) (h .beyond) in
     let n = st .session .place in
     let t = slotIn slot (st .memory) in
     let room : n + length x ≤ length t = omega arith in
-    held-by slot first (append x ∷ acts) (done slot (append x) st) (pasted t n x) (r .inside)
+    held-by slot first (append off x ∷ acts) (done slot (append off x) st) (pasted t n x) (r .inside)
     (pasted-length t n x room ∙ p .0)
     (ap (λ (m : List ℕ). pasted m (slot .start + n) x) (p .1) ∙ pasted-within (first .memory) (slot .start) t n x (omega arith) room)
-    (session-is slot (done slot (append x) st .session) (b .some) (b .within) (omega arith) (omega arith))
+    (session-is slot (done slot (append off x) st .session) (b .some) (b .within) (omega arith) (omega arith))
     (λ _. pasted-take t n x room ∙ ap (λ (l : List ℕ). l ++ x) (h .joined (fit .0)))
     (λ _. still-blank (slot .size) t n x (p .0) room (h .blank-after (fit .0)))
 step-held slot first acts st (start l tagged tag x) region h fit =
@@ -177,10 +215,6 @@ step-held slot first acts st erase region h fit =
 step-held slot first acts st end region h fit =
     record { below = h .below; beyond = h .beyond; size = h .size; possible = session-closed slot closed refl; joined = never; blank-after = never }
 
--- an upload request more, whatever the rules come to
-pub upload-held : (slot : Slot) (first : State) (acts : List Act) (st : State) (u : Upload) (x : List ℕ) → regionOk slot (length (first .memory)) ≡ true → Held slot first acts st → length x ≡ u .size → Held slot first (actOf u x (planOf slot (st .session) u) ∷ acts) (done slot (actOf u x (planOf slot (st .session) u)) st)
-upload-held slot first acts st u x region h size = step-held slot first acts st (actOf u x (planOf slot (st .session) u)) region h (planned-fit slot (st .session) u x (h .possible) size)
-
 -- "in any history": by its acts, one at a time
 pub demand : Demand
 demand slot first acts st region e history = all history
@@ -189,32 +223,56 @@ demand slot first acts st region e history = all history
     all begun = begun-held slot first e
     all (went {acts} {st} before a fit) = step-held slot first acts st a region (all before) fit
 
--- chunks that were cut from one image at their places are, joined, its first bytes
-pub cut-joined : (image : List ℕ) (acts : List Act) → CutFrom image acts → written acts ≡ take (length (written acts)) image
-unfolding CutFrom written
-cut-joined image [] cut = refl
-cut-joined image (keep ∷ acts) cut = cut-joined image acts cut
-cut-joined image (append x ∷ acts) cut =
-    let w = written acts in
-    ap₂ (λ (a b : List ℕ). a ++ b) (cut-joined image acts (cut .1)) (cut .0)
-    ∙ sym (take-add (length w) (length x) image)
-    ∙ ap (λ (n : ℕ). take n image) (sym (length-append w x))
-cut-joined image (start l tagged tag x ∷ acts) cut = cut
-cut-joined image (erase ∷ acts) cut = refl
-cut-joined image (end ∷ acts) cut = refl
-
 -- an open session's place is the count of the bytes written since its start
-pub written-length : (slot : Slot) (first : State) (acts : List Act) (st : State) → regionOk slot (length (first .memory)) ≡ true → Held slot first acts st → st .session .running ≡ true → length (written acts) ≡ st .session .place
+written-length : (slot : Slot) (first : State) (acts : List Act) (st : State) → regionOk slot (length (first .memory)) ≡ true
+    → Held slot first acts st
+    → st .session .running ≡ true
+    → length (written acts) ≡ st .session .place
 written-length slot first acts st region h running =
     let r = region-bounds slot (length (first .memory)) region in
     let b = session-bounds slot (st .session) (h .possible) running in
     let p = placed slot (first .memory) (st .memory) (r .inside) (h .size) (h .below) (h .beyond) in
     ap length (sym (h .joined running)) ∙ length-take-le (st .session .place) (slotIn slot (st .memory)) (omega arith)
 
--- the demand's last sentence, of a state that is as demanded
-pub held-unbroken : (slot : Slot) (first : State) (acts : List Act) (st : State) (image : List ℕ) → regionOk slot (length (first .memory)) ≡ true → Held slot first acts st → st .session .running ≡ true → CutFrom image acts → st .memory ≡ unbroken slot (first .memory) image (st .session .place)
+-- the data written since the start is the image's first bytes
+abbrev Prefix : List ℕ → List Act → Type 0
+Prefix image acts = written acts ≡ take (length (written acts)) image
+
+-- one act more: a chunk that was cut from the image at the offset that it names, which is the session's place, goes on where the others end
+cut-step : (slot : Slot) (first : State) (acts : List Act) (st : State) (a : Act) (image : List ℕ) → regionOk slot (length (first .memory)) ≡ true
+    → Held slot first acts st
+    → Fit slot (st .session) a
+    → (CutFrom image acts → Prefix image acts)
+    → CutFrom image (a ∷ acts)
+    → Prefix image (a ∷ acts)
+unfolding Fit CutFrom written
+cut-step slot first acts st keep image region h fit so cut = so cut
+cut-step slot first acts st (append off x) image region h fit so cut =
+    let w = written acts in
+    let at : off ≡ length w = fit .1 ∙ sym (written-length slot first acts st region h (fit .0)) in
+    ap₂ (λ (a b : List ℕ). a ++ b) (so (cut .1)) (cut .0 ∙ ap (λ (n : ℕ). take (length x) (drop n image)) at)
+    ∙ sym (take-add (length w) (length x) image)
+    ∙ ap (λ (n : ℕ). take n image) (sym (length-append w x))
+cut-step slot first acts st (start l tagged tag x) image region h fit so cut = cut
+cut-step slot first acts st erase image region h fit so cut = refl
+cut-step slot first acts st end image region h fit so cut = refl
+
+-- in any history, chunks that were cut from one image are, joined, its first bytes
+cut-joined : (slot : Slot) (first : State) (image : List ℕ) → regionOk slot (length (first .memory)) ≡ true → first .session .running ≡ false
+    → {acts : List Act} {st : State} → History slot first acts st
+    → CutFrom image acts
+    → Prefix image acts
+unfolding written
+cut-joined slot first image region e begun cut = refl
+cut-joined slot first image region e (went {acts} {st} before a fit) cut =
+    let held = demand slot first acts st region e before in
+    cut-step slot first acts st a image region held fit (λ before-cut. cut-joined slot first image region e before before-cut) cut
+
+-- the demand's last sentence, in any history
+pub as-unbroken : Unbroken
 unfolding blank
-held-unbroken slot first acts st image region h running cut =
+as-unbroken slot first acts st image region e history running cut =
+    let h = demand slot first acts st region e history in
     let r = region-bounds slot (length (first .memory)) region in
     let b = session-bounds slot (st .session) (h .possible) running in
     let p = placed slot (first .memory) (st .memory) (r .inside) (h .size) (h .below) (h .beyond) in
@@ -224,14 +282,10 @@ held-unbroken slot first acts st image region h running cut =
     let full : List ℕ = replicate (slot .size) 255 in
     let all : length full ≡ slot .size = length-replicate (slot .size) 255 in
     let w : length (written acts) ≡ n = written-length slot first acts st region h running in
-    let y : written acts ≡ take n image = cut-joined image acts cut ∙ ap (λ (i : ℕ). take i image) w in
+    let y : written acts ≡ take n image = cut-joined slot first image region e history cut ∙ ap (λ (i : ℕ). take i image) w in
     let k : length (take n image) ≡ n = ap length (sym y) ∙ w in
+    let after : drop n t ≡ drop (length (take n image)) full =
+    h .blank-after running ∙ sym (drop-replicate n (slot .size) 255 (omega arith)) ∙ ap (λ (i : ℕ). drop i full) (sym k) in
     p .1
-    ∙ ap (λ (l : List ℕ). pasted f (slot .start) l)
-    (sym (take-append-drop n t)
-    ∙ ap₂ (λ (u v : List ℕ). u ++ v) (h .joined running ∙ y) (h .blank-after running ∙ sym (drop-replicate n (slot .size) 255 (omega arith)) ∙ ap (λ (i : ℕ). drop i full) (sym k)))
+    ∙ ap (λ (l : List ℕ). pasted f (slot .start) l) (sym (take-append-drop n t) ∙ ap₂ (λ (u v : List ℕ). u ++ v) (h .joined running ∙ y) after)
     ∙ sym (pasted-at-start f (slot .start) full (take n image) (omega arith) (omega arith))
-
--- the demand's last sentence, in any history
-pub as-unbroken : Unbroken
-as-unbroken slot first acts st image region e history running cut = held-unbroken slot first acts st image region (demand slot first acts st region e history) running cut

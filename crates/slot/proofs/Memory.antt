@@ -16,11 +16,14 @@ use Rattle.slot.specs.History.{Fit}
 use Rattle.slot.proofs.Laws.{region-bounds, session-bounds}
 
 -- the slot's part set to 255, seen in the whole
-pub cleared : (slot : Slot) (e : ℕ) (m ys : List ℕ) → e ≡ slot .start + slot .size → e ≤ length m → ys ≡ replicate (length (take (e - slot .start) (drop (slot .start) m))) 255 → take (slot .start) m ++ (ys ++ drop (e - slot .start) (drop (slot .start) m)) ≡ blank slot m
+pub cleared : (slot : Slot) (e : ℕ) (m ys : List ℕ) → e ≡ slot .start + slot .size → e ≤ length m
+    → ys ≡ replicate (length (take (e - slot .start) (drop (slot .start) m))) 255
+    → take (slot .start) m ++ (ys ++ drop (e - slot .start) (drop (slot .start) m)) ≡ blank slot m
 unfolding blank
 cleared slot e m ys at room filled =
     let w : e - slot .start ≡ slot .size = omega arith in
-    let n : length (take (slot .size) (drop (slot .start) m)) ≡ slot .size = length-take-le (slot .size) (drop (slot .start) m) (simp length-drop (omega arith)) in
+    let n : length (take (slot .size) (drop (slot .start) m)) ≡ slot .size =
+    length-take-le (slot .size) (drop (slot .start) m) (simp length-drop (omega arith)) in
     rw (filled, w, n, pasted-is, length-replicate, drop-drop)
 
 -- a memory with a blank slot is as long as before
@@ -34,9 +37,10 @@ pub record Room (slot : Slot) (s : Session) (n m : ℕ) : Type 0 where
   pub in-slot : s .place + n ≤ 1048576
 
 -- where data is added there is room for it
-pub append-room : (slot : Slot) (s : Session) (x : List ℕ) (m : ℕ) → regionOk slot m ≡ true → sessionOk slot s ≡ true → Fit slot s (append x) → Room slot s (length x) m
+pub append-room : (slot : Slot) (s : Session) (off : ℕ) (x : List ℕ) (m : ℕ) → regionOk slot m ≡ true → sessionOk slot s ≡ true → Fit slot s (append off x)
+    → Room slot s (length x) m
 unfolding Fit
-append-room slot s x m r e f =
+append-room slot s off x m r e f =
     let a = region-bounds slot m r in
     let b = session-bounds slot s e (f .0) in
     record { in-memory = omega arith; in-slot = omega arith }

@@ -9,14 +9,14 @@ use lib.ListN.{length, take, drop, replicate}
 use Rattle.laws.specs.Bytes.{pasted}
 use Rattle.slot.specs.declared.Slot.{Slot}
 use Rattle.slot.specs.declared.Session.{Session}
-use Rattle.slot.specs.Session.{regionOk, sessionOk}
-use Rattle.slot.specs.Act.{State, Act, keep, append, start, erase, end, blank, done}
+use Rattle.slot.specs.Session.{regionOk, sessionOk, State}
+use Rattle.slot.specs.Act.{Act, keep, append, start, erase, end, blank, done}
 
--- an act that the upload rules may come to in a state: data is added only to an open session and within its length, and a session starts
--- only with a length that the slot has and with data within it
+-- an act that the upload rules may come to in a session: data is added only to an open session, at the offset that its request names, which
+-- is the session's place, and within its length; a session starts only with a length that the slot has and with data within it
 unfoldable pub Fit : Slot → Session → Act → Type 0
 Fit slot s keep = Unit {0}
-Fit slot s (append x) = (s .running ≡ true) × (1 ≤ length x) × (s .place + length x ≤ s .length)
+Fit slot s (append off x) = (s .running ≡ true) × (off ≡ s .place) × (1 ≤ length x) × (s .place + length x ≤ s .length)
 Fit slot s (start l tagged tag x) = (1 ≤ length x) × (length x ≤ l) × (l ≤ slot .size)
 Fit slot s erase = Unit {0}
 Fit slot s end = Unit {0}
@@ -30,7 +30,7 @@ pub data History (slot : Slot) (first : State) : List Act → State → Type 0 w
 unfoldable pub written : List Act → List ℕ
 written [] = []
 written (keep ∷ acts) = written acts
-written (append x ∷ acts) = written acts ++ x
+written (append off x ∷ acts) = written acts ++ x
 written (start l tagged tag x ∷ acts) = x
 written (erase ∷ acts) = []
 written (end ∷ acts) = []
@@ -56,11 +56,11 @@ Demand =
     → History slot first acts st
     → Held slot first acts st
 
--- each chunk that was written since the start is the image's part at the offset that it names, its place in the session
+-- each chunk that was written since the start is the image's part at the offset that its request names; at the start that is 0
 unfoldable pub CutFrom : List ℕ → List Act → Type 0
 CutFrom image [] = Unit {0}
 CutFrom image (keep ∷ acts) = CutFrom image acts
-CutFrom image (append x ∷ acts) = (x ≡ take (length x) (drop (length (written acts)) image)) × CutFrom image acts
+CutFrom image (append off x ∷ acts) = (x ≡ take (length x) (drop off image)) × CutFrom image acts
 CutFrom image (start l tagged tag x ∷ acts) = x ≡ take (length x) image
 CutFrom image (erase ∷ acts) = Unit {0}
 CutFrom image (end ∷ acts) = Unit {0}

@@ -1,5 +1,4 @@
 pub mod Session
 pub mod Plan
 pub mod Act
-pub mod State
 pub mod History

@@ -5,7 +5,7 @@ use Prim.Native.Nat.{ℕ, _+_}
 use mathlib.Core.Bool.{Bool, true, false}
 use mathlib.Core.List.{List}
 use lib.Dec.{leb}
-use lib.ListN.{replicate}
+use lib.ListN.{length, replicate}
 use Rattle.laws.specs.Choice.{pick, both}
 use Rattle.refusal.specs.Number.{numberOf}
 use Rattle.slot.specs.declared.Slot.{Slot}
@@ -24,9 +24,30 @@ sessionOk slot s =
     (both (leb 1 (s .length)) (both (leb (s .length) (slot .size)) (both (leb 1 (s .place)) (leb (s .place) (s .length)))))
     true
 
--- the closed record
+-- all that lasts from one request to the next: the lent memory, the session record and its tag
+pub record State : Type 0 where
+  pub memory : List ℕ
+  pub session : Session
+  pub tag : List ℕ
+
+-- this memory and tag with this session
+abbrev pub stateOf : List ℕ → List ℕ → Session → State
+stateOf m tag s = record { memory = m; session = s; tag = tag }
+
+-- the slot's region and the session record are possible
+abbrev pub possible : Slot → State → Bool
+possible slot st = both (regionOk slot (length (st .memory))) (sessionOk slot (st .session))
+
+-- the closed record, and a tag that is none
 abbrev pub closed : Session
-closed = record { running = false; length = 0; place = 0; tagged = false; tag = replicate 32 0 }
+closed = record { running = false; length = 0; place = 0; tagged = false }
+
+abbrev pub noTag : List ℕ
+noTag = replicate 32 0
+
+-- a memory with no session: what configuring begins with
+abbrev pub closedIn : List ℕ → State
+closedIn m = stateOf m noTag closed
 
 -- what configuring says, in the paper's terms: the slot, or the refusal of this number
 pub data Said : Type 0 where

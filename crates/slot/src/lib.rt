@@ -1,15 +1,20 @@
-// The upload slot in the lent memory, the session that fills it, and the upload rules on numbers: a plan is made first, then carried out.
+// The upload slot in the lent memory, the session that fills it, and the upload rules: a plan is made first, then carried out.
+use laws::Number;
+use laws::Run;
+use reason::Reason;
 use refusal::Refusal;
 ghost use mathlib.Core.Path.{_≡_};
-ghost use mathlib.Core.Bool.{true, not};
-ghost use Prim.Native.Nat.{_+_, _-_, _^_, _≤_, _<_};
+ghost use mathlib.Core.List.{List};
+ghost use mathlib.Core.Bool.{true, false, not};
+ghost use Prim.Native.Nat.{ℕ, _+_, _-_, _^_, _≤_, _<_};
 ghost use lib.Dec.{ltb, eqb};
 ghost use lib.ListN.{length};
 ghost use Rattle.laws.specs.Choice.{both};
-ghost use Rattle.slot.specs.Session.{regionOk, sessionOk, closed, said, configured};
-ghost use Rattle.slot.specs.Plan.{above, misSized, whole, sameTag, planLater, planSized, planLength, planFirst, planOf};
-ghost use Rattle.slot.specs.Act.{Act, blank, grown, done, actOf};
-ghost use Rattle.slot.specs.State.{stateOf};
+ghost use Rattle.laws.specs.Bytes.{same};
+ghost use Rattle.laws.specs.Parts.{isThere, Within};
+ghost use Rattle.slot.specs.Session.{regionOk, sessionOk, State, stateOf, closed, noTag, closedIn, said, configured};
+ghost use Rattle.slot.specs.Plan.{above, misSized, sameTag, planLater, planSized, planLength, planFirst, planOf};
+ghost use Rattle.slot.specs.Act.{Act, blank, grown, done, tagKept, actOf};
 ghost use Rattle.slot.specs.History.{Fit};
 
 // The slot: where it starts in the memory, and its size.
@@ -25,8 +30,8 @@ pub struct Session {
     pub length: usize,
     // the next expected offset
     pub place: usize,
+    // whether it has a tag, which stands beside the record
     pub tagged: bool,
-    pub tag: [u8; 32],
 }
 
 // What configuring gave.
@@ -35,36 +40,22 @@ pub enum Configured {
     Refused(Refusal),
 }
 
-// A number that a request may leave out.
-pub enum Number {
-    Absent,
-    Is(u64),
-}
-
-// A request's tag: left out, of 32 bytes, or of another length.
-pub enum Sha {
-    Absent,
-    Whole,
-    OtherLength,
-}
-
-// An upload request but for its data: the offset, how many data bytes, and the keys that count at offset 0.
+// An upload request: the offset, where its data stands in the bytes that it came in, and the keys that count at offset 0.
 pub struct Upload {
     pub off: u64,
+    pub start: usize,
     pub size: usize,
     pub length: Number,
     pub image: Number,
-    pub sha: Sha,
-    // the tag where it is of 32 bytes, else zeros
-    pub tag: [u8; 32],
+    pub sha: Run,
     pub upgrade: bool,
 }
 
 // What an upload request comes to.
 pub enum Plan {
-    // Answered with this rc; memory and session stay.
-    Refuse(u8),
-    // Answered with success and this offset; memory and session stay.
+    // Refused for this reason; all stays.
+    Refuse(Reason),
+    // Answered with success and this offset; all stays.
     Tell(usize),
     // The data goes to the slot's next place.
     Append,
@@ -131,24 +122,16 @@ pub fn configure(start: usize, size: usize, room: usize) -> Configured
     Configured::Ready(slot)
 }
 
-// The session record of these parts.
-fn session_of(running: bool, length: usize, place: usize, tagged: bool, tag: [u8; 32]) -> Session
-    ensures { λ r. ⌜ r ≡ record { running = running; length = length; place = place; tagged = tagged; tag = tag } ⌝ }
-{
-    Session {
-        running,
-        length,
-        place,
-        tagged,
-        tag,
-    }
-}
-
 // The closed session record.
 pub fn closed_session() -> Session
     ensures { λ r. ⌜ r ≡ closed ⌝ }
 {
-    session_of(false, 0, 0, false, [0; 32])
+    Session {
+        running: false,
+        length: 0,
+        place: 0,
+        tagged: false,
+    }
 }
 
 // The session with n bytes more, which the largest slot has room for.
@@ -171,30 +154,26 @@ fn is_above(n: u64, number: Number) -> bool
 }
 
 // Whether a tag that is there is not of 32 bytes.
-fn is_mis_sized(sha: Sha) -> bool
+fn is_mis_sized(sha: Run) -> bool
     ensures { λ r. ⌜ r ≡ misSized sha ⌝ }
 {
     match sha {
-        Sha::Absent => false,
-        Sha::Whole => false,
-        Sha::OtherLength => true,
+        Run::Absent => false,
+        Run::At { start: _, len } => len != 32,
     }
 }
 
-// Whether a tag of 32 bytes is there.
-fn is_whole(sha: Sha) -> bool
-    ensures { λ r. ⌜ r ≡ whole sha ⌝ }
+// Whether these bytes are the tag.
+fn is_tag(tag: [u8; 32], theirs: &[u8]) -> bool
+    ensures { λ r. ⌜ r ≡ same tag (now (theirs .entry)) ⌝ }
 {
-    match sha {
-        Sha::Absent => false,
-        Sha::Whole => true,
-        Sha::OtherLength => false,
-    }
+    laws::equal(&tag, theirs)
 }
 
 // Whether the request's tag is the open session's.
-fn has_same_tag(session: Session, upload: Upload) -> bool
-    ensures { λ r. ⌜ r ≡ sameTag session upload ⌝ }
+fn has_same_tag(session: Session, tag: &[u8; 32], source: &[u8], sha: Run) -> bool
+    requires { ⌜ Within (now source) sha ⌝ }
+    ensures { λ r. ⌜ ((m : List ℕ) → r ≡ sameTag (stateOf m (now (tag .entry)) session) (now (source .entry)) sha) ⌝ }
 {
     if !session.running {
         return false;
@@ -202,14 +181,11 @@ fn has_same_tag(session: Session, upload: Upload) -> bool
     if !session.tagged {
         return false;
     }
-    let sha = upload.sha;
-    let there = is_whole(sha);
-    if !there {
+    let Run::At { start, len } = sha else {
         return false;
-    }
-    let ours = session.tag;
-    let theirs = upload.tag;
-    laws::equal(&ours, &theirs)
+    };
+    let end = start + len;
+    is_tag(*tag, &source[start..end])
 }
 
 // Whether a request with the open session's tag names another length than the session's.
@@ -233,7 +209,7 @@ fn ends_beyond(session: Session, size: usize) -> bool
 // What a request with an offset above 0 comes to.
 fn plan_later(session: Session, upload: Upload) -> Plan
     requires { ⌜ (session .running ≡ true → session .place ≤ session .length) ⌝ }
-    ensures { λ r. ⌜ r ≡ planLater session upload ⌝ }
+    ensures { λ r. ⌜ ((m tag : List ℕ) → r ≡ planLater (stateOf m tag session) upload) ⌝ }
 {
     if !session.running {
         return Plan::Tell(0);
@@ -244,25 +220,33 @@ fn plan_later(session: Session, upload: Upload) -> Plan
     }
     let beyond = ends_beyond(session, upload.size);
     if beyond {
-        return Plan::Refuse(3);
+        return Plan::Refuse(Reason::BeyondLength);
     }
     Plan::Append
 }
 
 // What a request at offset 0 comes to, whose length is one that the slot has.
-fn plan_sized(session: Session, upload: Upload, length: usize) -> Plan
-    ensures { λ r. ⌜ r ≡ planSized session upload length ⌝ }
+fn plan_sized(
+    session: Session,
+    tag: &[u8; 32],
+    source: &[u8],
+    upload: Upload,
+    length: usize,
+) -> Plan
+    requires { ⌜ Within (now source) (upload .sha) ⌝ }
+    ensures { λ r. ⌜ ((m : List ℕ) → r ≡ planSized (stateOf m (now (tag .entry)) session) (now (source .entry)) upload length) ⌝ }
 {
     if length < upload.size {
-        return Plan::Refuse(3);
+        return Plan::Refuse(Reason::DataTooLong);
     }
-    let same = has_same_tag(session, upload);
+    let sha = upload.sha;
+    let same = has_same_tag(session, tag, source, sha);
     let clash = clashes(same, length, session.length);
     if clash {
-        return Plan::Refuse(3);
+        return Plan::Refuse(Reason::OtherLength);
     }
     if upload.upgrade {
-        return Plan::Refuse(8);
+        return Plan::Refuse(Reason::Upgrade);
     }
     if same {
         return Plan::Tell(session.place);
@@ -271,61 +255,77 @@ fn plan_sized(session: Session, upload: Upload, length: usize) -> Plan
 }
 
 // What a request at offset 0 comes to, by its length.
-fn plan_length(slot: Slot, session: Session, upload: Upload, number: Number) -> Plan
-    ensures { λ r. ⌜ r ≡ planLength slot session upload number ⌝ }
+fn plan_length(
+    slot: Slot,
+    session: Session,
+    tag: &[u8; 32],
+    source: &[u8],
+    upload: Upload,
+    number: Number,
+) -> Plan
+    requires { ⌜ Within (now source) (upload .sha) ⌝ }
+    ensures { λ r. ⌜ ((m : List ℕ) → r ≡ planLength slot (stateOf m (now (tag .entry)) session) (now (source .entry)) upload number) ⌝ }
 {
     let Number::Is(length) = number else {
-        return Plan::Refuse(3);
+        return Plan::Refuse(Reason::NoLength);
     };
     if length == 0 {
-        return Plan::Refuse(3);
+        return Plan::Refuse(Reason::ZeroLength);
     }
     let size = slot.size;
     if (size as u64) < length {
-        return Plan::Refuse(3);
+        return Plan::Refuse(Reason::AboveSlot);
     }
     let sha = upload.sha;
     let bad = is_mis_sized(sha);
     if bad {
-        return Plan::Refuse(3);
+        return Plan::Refuse(Reason::TagSize);
     }
-    plan_sized(session, upload, length as usize)
+    plan_sized(session, tag, source, upload, length as usize)
 }
 
 // What a request at offset 0 comes to.
-fn plan_first(slot: Slot, session: Session, upload: Upload) -> Plan
-    ensures { λ r. ⌜ r ≡ planFirst slot session upload ⌝ }
+fn plan_first(slot: Slot, session: Session, tag: &[u8; 32], source: &[u8], upload: Upload) -> Plan
+    requires { ⌜ Within (now source) (upload .sha) ⌝ }
+    ensures { λ r. ⌜ ((m : List ℕ) → r ≡ planFirst slot (stateOf m (now (tag .entry)) session) (now (source .entry)) upload) ⌝ }
 {
     let image = upload.image;
     let other = is_above(0, image);
     if other {
-        return Plan::Refuse(3);
+        return Plan::Refuse(Reason::OtherImage);
     }
     let number = upload.length;
-    plan_length(slot, session, upload, number)
+    plan_length(slot, session, tag, source, upload, number)
 }
 
-// What an upload request comes to.
-pub fn plan_upload(slot: Slot, session: Session, upload: Upload) -> Plan
+// What an upload request comes to. Its data and its tag are named by their places in the bytes that it came in.
+pub fn plan_upload(
+    slot: Slot,
+    session: Session,
+    tag: &[u8; 32],
+    source: &[u8],
+    upload: Upload,
+) -> Plan
     requires { ⌜ sessionOk slot session ≡ true ⌝ }
-    ensures { λ r. ⌜ r ≡ planOf slot session upload ⌝ }
+    requires { ⌜ Within (now source) (upload .sha) ⌝ }
+    ensures { λ r. ⌜ ((m : List ℕ) → r ≡ planOf slot (stateOf m (now (tag .entry)) session) (now (source .entry)) upload) ⌝ }
 {
     let off = upload.off;
     if 4294967295 < off {
-        return Plan::Refuse(3);
+        return Plan::Refuse(Reason::OffsetTooLarge);
     }
     let number = upload.length;
     let large = is_above(4294967295, number);
     if large {
-        return Plan::Refuse(3);
+        return Plan::Refuse(Reason::LengthTooLarge);
     }
     if upload.size == 0 {
-        return Plan::Refuse(3);
+        return Plan::Refuse(Reason::EmptyData);
     }
     if 0 < off {
         return plan_later(session, upload);
     }
-    plan_first(slot, session, upload)
+    plan_first(slot, session, tag, source, upload)
 }
 
 // The place after the slot's last byte.
@@ -346,70 +346,98 @@ fn clear(slot: Slot, memory: &mut [u8])
     laws::fill(&mut memory[a..e], 255);
 }
 
-// Puts data at the session's place in the slot.
+// Puts data at the session's place in the slot, whatever offset the request named.
 fn append(slot: Slot, session: Session, memory: &mut [u8], data: &[u8]) -> Session
     requires { ⌜ regionOk slot (length (now memory)) ≡ true ⌝ }
     requires { ⌜ sessionOk slot session ≡ true ⌝ }
-    requires { ⌜ Fit slot session (Act.append (now «data»)) ⌝ }
-    ensures { λ r. ⌜ stateOf (now (memory .exit)) r ≡ done slot (Act.append (now («data» .entry))) (stateOf (now (memory .entry)) session) ⌝ }
+    requires { ⌜ Fit slot session (Act.append (session .place) (now «data»)) ⌝ }
+    ensures { λ r. ⌜ ((tag : List ℕ) (off : ℕ) → stateOf (now (memory .exit)) tag r ≡ done slot (Act.append off (now («data» .entry))) (stateOf (now (memory .entry)) tag session)) ⌝ }
 {
     let at = slot.start + session.place;
     bytes::copy(data, &mut memory[at..]);
     grow(session, data.len())
 }
 
-// Starts a session: the slot is all 255 but for the data at its start.
-fn start(
-    slot: Slot,
-    len: usize,
-    tagged: bool,
-    tag: [u8; 32],
-    memory: &mut [u8],
-    data: &[u8],
-) -> Session
+// The tag that a session keeps: the request's 32 bytes, or zeros where it has none.
+fn kept_tag(source: &[u8], sha: Run) -> [u8; 32]
+    requires { ⌜ Within (now source) sha ⌝ }
+    requires { ⌜ misSized sha ≡ false ⌝ }
+    ensures { λ r. ⌜ r ≡ tagKept (now (source .entry)) sha ⌝ }
+{
+    let mut tag = [0u8; 32];
+    let Run::At { start, len } = sha else {
+        return tag;
+    };
+    let end = start + len;
+    bytes::copy(&source[start..end], &mut tag);
+    tag
+}
+
+// Whether a run is there.
+fn is_there(run: Run) -> bool
+    ensures { λ r. ⌜ r ≡ isThere run ⌝ }
+{
+    let Run::At { start: _, len: _ } = run else {
+        return false;
+    };
+    true
+}
+
+// Starts a session of this length: the slot is all 255 but for the data at its start.
+fn start(slot: Slot, len: usize, tagged: bool, memory: &mut [u8], data: &[u8]) -> Session
     requires { ⌜ regionOk slot (length (now memory)) ≡ true ⌝ }
     requires { ⌜ length (now «data») ≤ slot .size ⌝ }
-    ensures { λ r. ⌜ ((s : Session) → stateOf (now (memory .exit)) r ≡ done slot (Act.start len tagged tag (now («data» .entry))) (stateOf (now (memory .entry)) s)) ⌝ }
+    ensures { λ r. ⌜ ((st : State) (tag : List ℕ) → st .memory ≡ now (memory .entry) → stateOf (now (memory .exit)) tag r ≡ done slot (Act.start len tagged tag (now («data» .entry))) st) ⌝ }
 {
     clear(slot, memory);
     let a = slot.start;
     bytes::copy(data, &mut memory[a..]);
-    session_of(true, len, data.len(), tagged, tag)
+    Session {
+        running: true,
+        length: len,
+        place: data.len(),
+        tagged,
+    }
 }
 
 // Sets the whole slot to 255 and ends the session, whichever it was.
-pub fn erase(slot: Slot, memory: &mut [u8]) -> Session
+pub fn erase(slot: Slot, tag: &mut [u8; 32], memory: &mut [u8]) -> Session
     requires { ⌜ regionOk slot (length (now memory)) ≡ true ⌝ }
-    ensures { λ r. ⌜ ((s : Session) → stateOf (now (memory .exit)) r ≡ done slot Act.erase (stateOf (now (memory .entry)) s)) ⌝ }
+    ensures { λ r. ⌜ ((s : Session) → stateOf (now (memory .exit)) (now (tag .exit)) r ≡ done slot Act.erase (stateOf (now (memory .entry)) (now (tag .entry)) s)) ⌝ }
 {
     clear(slot, memory);
+    *tag = [0u8; 32];
     closed_session()
 }
 
-// Carries out what an upload request came to: memory and session stay, or take the data.
+// Carries out what an upload request came to: all stays, or the slot takes the data.
 pub fn carry_out(
     slot: Slot,
     session: Session,
+    tag: &mut [u8; 32],
+    memory: &mut [u8],
+    source: &[u8],
     upload: Upload,
     plan: Plan,
-    memory: &mut [u8],
-    data: &[u8],
 ) -> Session
     requires { ⌜ regionOk slot (length (now memory)) ≡ true ⌝ }
     requires { ⌜ sessionOk slot session ≡ true ⌝ }
-    requires { ⌜ plan ≡ planOf slot session upload ⌝ }
-    requires { ⌜ length (now «data») ≡ upload .size ⌝ }
-    ensures { λ r. ⌜ stateOf (now (memory .exit)) r ≡ done slot (actOf upload (now («data» .entry)) plan) (stateOf (now (memory .entry)) session) ⌝ }
+    requires { ⌜ plan ≡ planOf slot (stateOf (now memory) (now tag) session) (now source) upload ⌝ }
+    requires { ⌜ upload .start + upload .size ≤ length (now source) ⌝ }
+    requires { ⌜ Within (now source) (upload .sha) ⌝ }
+    ensures { λ r. ⌜ stateOf (now (memory .exit)) (now (tag .exit)) r ≡ done slot (actOf (now (source .entry)) upload plan) (stateOf (now (memory .entry)) (now (tag .entry)) session) ⌝ }
 {
+    let from = upload.start;
+    let to = from + upload.size;
     match plan {
         Plan::Refuse(_) => session,
         Plan::Tell(_) => session,
-        Plan::Append => append(slot, session, memory, data),
+        Plan::Append => append(slot, session, memory, &source[from..to]),
         Plan::Start(length) => {
             let sha = upload.sha;
-            let tagged = is_whole(sha);
-            let tag = upload.tag;
-            start(slot, length, tagged, tag, memory, data)
+            *tag = kept_tag(source, sha);
+            let tagged = is_there(sha);
+            start(slot, length, tagged, memory, &source[from..to])
         }
     }
 }

@@ -17,11 +17,13 @@ use Rattle.laws.proofs.Lists.{pasted-is, pasted-start, pasted-twice}
 use Rattle.cbor.specs.Put.{Put}
 use Rattle.cbor.specs.Write.{headOf, unsigned, textOf, mapOf}
 use Rattle.cbor.proofs.Laws.{head-size, head-length, form-tiny, form-one, form-two, form-four}
+use Rattle.reason.specs.declared.Reason.{Reason}
 use Rattle.map.specs.Keys.{nameR, nameRc, nameOff}
 use Rattle.smp.specs.declared.Header.{Header}
 use Rattle.smp.specs.declared.Reply.{Reply}
 use Rattle.smp.specs.Packet.{headerBytes}
-use Rattle.smp.specs.Reply.{replyMap, replyHeader, replyPacket, replyBytes, Written}
+use Rattle.smp.specs.Reply.{rcMap, replyMap, replyHeader, replyPacket, replyBytes}
+use Rattle.smp.specs.Contract.{Written}
 use Rattle.smp.proofs.Headers.{header-length}
 
 -- what is written where a first list ended stands joined to it
@@ -116,11 +118,11 @@ written-whole h s r d n e fits p =
     }
 
 -- a reply that does not fit is rc 7 instead
-pub written-seven : (h : Header) (s : List ℕ) (r : Reply) (d : List ℕ) (n : ℕ) (e : List ℕ) → ltb (length d) (8 + length (replyMap s r)) ≡ true → Put n e d 0 (replyPacket h (replyMap s (Reply.Rc 7))) → Written h s r d n e
+pub written-seven : (h : Header) (s : List ℕ) (r : Reply) (d : List ℕ) (n : ℕ) (e : List ℕ) → ltb (length d) (8 + length (replyMap s r)) ≡ true → Put n e d 0 (replyPacket h (replyMap s (Reply.Refused Reason.ReplyTooLong))) → Written h s r d n e
 unfolding replyBytes
 written-seven h s r d n e long p =
     record {
-      count = simp (long, pick-yes) (p .place ∙ zero-add (length (replyPacket h (replyMap s (Reply.Rc 7)))));
+      count = simp (long, pick-yes) (p .place ∙ zero-add (length (replyPacket h (replyMap s (Reply.Refused Reason.ReplyTooLong)))));
       bytes = simp (long, pick-yes) (p .written);
     }
 
@@ -162,9 +164,8 @@ echo-parts s start len =
     rw e (sym (append-assoc (mapOf 1) (textOf nameR) (textOf (take len (drop start s)))))
 
 -- how long the map of a return code is
-pub rc-map : (s : List ℕ) (n : ℕ) → length (replyMap s (Reply.Rc n)) ≡ 4 + length (unsigned n)
-unfolding replyMap
-rc-map s n = simp length-append (omega (arith, head-tiny 5 1 (lit< tt), head-tiny 3 2 (lit< tt)))
+pub rc-map : (n : ℕ) → length (rcMap n) ≡ 4 + length (unsigned n)
+rc-map n = simp length-append (omega (arith, head-tiny 5 1 (lit< tt), head-tiny 3 2 (lit< tt)))
 
 -- how long the map of a place is
 pub placed-map : (s : List ℕ) (n : ℕ) → length (replyMap s (Reply.Placed n)) ≡ 9 + length (unsigned n)
@@ -184,20 +185,20 @@ unfolding replyPacket
 packet-length h m = rw (length-append, header-length (replyHeader h (length m)))
 
 -- the reply with a return code, at most 14 bytes, fits the smallest buffer of 32
-pub rc-length : (h : Header) (s : List ℕ) (n : ℕ) → n < 256 → length (replyPacket h (replyMap s (Reply.Rc n))) ≤ 14
-rc-length h s n l = omega (arith, packet-length h (replyMap s (Reply.Rc n)), rc-map s n, head-byte 0 n l)
+pub rc-length : (h : Header) (n : ℕ) → n < 256 → length (replyPacket h (rcMap n)) ≤ 14
+rc-length h n l = omega (arith, packet-length h (rcMap n), rc-map n, head-byte 0 n l)
 
 -- the reply with a place, at most 22 bytes, fits the smallest buffer of 32
 pub placed-length : (h : Header) (s : List ℕ) (n : ℕ) → n < 4294967296 → length (replyPacket h (replyMap s (Reply.Placed n))) ≤ 22
 placed-length h s n l = omega (arith, packet-length h (replyMap s (Reply.Placed n)), placed-map s n, head-word 0 n l)
 
 -- a return code has room in a buffer of at least 32 bytes
-pub rc-room : (s : List ℕ) (n : ℕ) {room : ℕ} → n < 256 → 32 ≤ room → 8 + length (replyMap s (Reply.Rc n)) ≤ room
-rc-room s n l h = omega (arith, rc-map s n, head-byte 0 n l)
+pub rc-room : (n : ℕ) {room : ℕ} → n < 256 → 32 ≤ room → 8 + length (rcMap n) ≤ room
+rc-room n l h = omega (arith, rc-map n, head-byte 0 n l)
 
 -- so it fits
-pub rc-fits : (s : List ℕ) (n room : ℕ) → n < 256 → 32 ≤ room → ltb room (8 + length (replyMap s (Reply.Rc n))) ≡ false
-rc-fits s n room l h = le-ltb room (8 + length (replyMap s (Reply.Rc n))) (rc-room s n l h)
+pub rc-fits : (n room : ℕ) → n < 256 → 32 ≤ room → ltb room (8 + length (rcMap n)) ≡ false
+rc-fits n room l h = le-ltb room (8 + length (rcMap n)) (rc-room n l h)
 
 -- a place fits a buffer of at least 32 bytes
 pub placed-fits : (s : List ℕ) (n room : ℕ) → n < 4294967296 → 32 ≤ room → ltb room (8 + length (replyMap s (Reply.Placed n))) ≡ false

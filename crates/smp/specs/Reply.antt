@@ -1,23 +1,29 @@
 -- Replies: what each says, and its form.
 -- Assumes nothing.
 use Prim.Native.Nat.{ℕ, _+_}
-use mathlib.Core.Path.{_≡_}
 use mathlib.Core.List.{List, _++_}
 use lib.Dec.{ltb}
-use lib.ListN.{length, take, drop}
+use lib.ListN.{length}
 use Rattle.laws.specs.Choice.{pick}
-use Rattle.laws.specs.Bytes.{pasted}
+use Rattle.laws.specs.Parts.{partOf}
+use Rattle.reason.specs.declared.Reason.{Reason}
+use Rattle.reason.specs.Rc.{rcOf}
 use Rattle.cbor.specs.Write.{unsigned, textOf, mapOf}
 use Rattle.map.specs.Keys.{nameR, nameRc, nameOff}
 use Rattle.smp.specs.declared.Header.{Header}
 use Rattle.smp.specs.declared.Reply.{Reply}
 use Rattle.smp.specs.Packet.{headerBytes}
 
--- a reply's map: {"rc": n}; {"rc": 0, "off": n}; {"r": text}, the text a part of the request s
+-- {"rc": n}
+abbrev pub rcMap : ℕ → List ℕ
+rcMap n = mapOf 1 ++ (textOf nameRc ++ unsigned n)
+
+-- a reply's map: {"rc": n}, n the reason's rc or 0; {"rc": 0, "off": n}; {"r": text}, the text a part of the request s
 unfoldable pub replyMap : List ℕ → Reply → List ℕ
-replyMap s (Reply.Rc n) = mapOf 1 ++ (textOf nameRc ++ unsigned n)
+replyMap s (Reply.Refused why) = rcMap (rcOf why)
+replyMap s Reply.Done = rcMap 0
 replyMap s (Reply.Placed n) = mapOf 2 ++ (textOf nameRc ++ (unsigned 0 ++ (textOf nameOff ++ unsigned n)))
-replyMap s (Reply.Text start len) = mapOf 1 ++ (textOf nameR ++ textOf (take len (drop start s)))
+replyMap s (Reply.Text start len) = mapOf 1 ++ (textOf nameR ++ textOf (partOf s start len))
 
 -- "the reply has op plus 1, flags 0, and the same group, sequence and command"
 abbrev pub replyHeader : Header → ℕ → Header
@@ -31,10 +37,5 @@ replyPacket h m = headerBytes (replyHeader h (length m)) ++ m
 unfoldable pub replyBytes : Header → List ℕ → Reply → ℕ → List ℕ
 replyBytes h s r room =
     pick (ltb room (8 + length (replyMap s r)))
-    (replyPacket h (replyMap s (Reply.Rc 7)))
+    (replyPacket h (replyMap s (Reply.Refused Reason.ReplyTooLong)))
     (replyPacket h (replyMap s r))
-
--- a reply that was written: its length n, and the buffer, d before and e after
-pub record Written (h : Header) (s : List ℕ) (r : Reply) (d : List ℕ) (n : ℕ) (e : List ℕ) : Type 0 where
-  pub count : n ≡ length (replyBytes h s r (length d))
-  pub bytes : e ≡ pasted d 0 (replyBytes h s r (length d))

@@ -1,24 +1,20 @@
 -- Requests: which packets are one, and what each asks for.
 -- Assumes nothing.
-use Prim.Native.Nat.{ℕ}
-use mathlib.Core.Bool.{Bool, true, false, not}
+use mathlib.Core.Bool.{Bool, not}
 use mathlib.Core.List.{List}
+use mathlib.Core.Option.{Option, none, some}
+use Prim.Native.Nat.{ℕ}
 use lib.Dec.{eqb}
-use lib.ListN.{length}
+use Rattle.laws.specs.declared.Number.{Number}
+use Rattle.laws.specs.declared.Run.{Run}
 use Rattle.laws.specs.Choice.{pick, both}
-use Rattle.cbor.specs.declared.Value.{Value}
-use Rattle.cbor.specs.declared.Value.the-variants.{Unsigned, Negative, Bytes, Null}
+use Rattle.reason.specs.declared.Reason.{Reason}
 use Rattle.map.specs.declared.Kind.{Kind}
-use Rattle.map.specs.declared.Field.{Field}
-use Rattle.map.specs.declared.Fields.{Fields}
-use Rattle.map.specs.declared.Walked.{Walked}
+use Rattle.map.specs.declared.Key.{Key}
+use Rattle.map.specs.Fields.{numberIn, runIn, flagIn}
 use Rattle.map.specs.Walk.{mapFrom}
-use Rattle.slot.specs.declared.Number.{Number}
-use Rattle.slot.specs.declared.Sha.{Sha}
 use Rattle.smp.specs.declared.Header.{Header}
 use Rattle.smp.specs.declared.Command.{Command}
-use Rattle.smp.specs.declared.Run.{Run}
-use Rattle.smp.specs.declared.Chunk.{Chunk}
 use Rattle.smp.specs.declared.Request.{Request}
 use Rattle.smp.specs.declared.Reading.{Reading}
 use Rattle.smp.specs.Packet.{headerIn, sized}
@@ -37,94 +33,47 @@ commandOf h =
     Command.Unknown))
     Command.Unknown)
 
--- a number, a string and a flag among the fields of a map
-unfoldable pub numberIn : Field → Number
-numberIn Field.Absent = Number.Absent
-numberIn (Field.Is (Unsigned n)) = Number.Is n
-numberIn (Field.Is (Negative n)) = Number.Absent
-numberIn (Field.Is (Bytes start len)) = Number.Absent
-numberIn (Field.Is (Value.Text start len)) = Number.Absent
-numberIn (Field.Is (Value.Flag b)) = Number.Absent
-numberIn (Field.Is Null) = Number.Absent
-
-unfoldable pub runIn : Field → Run
-runIn Field.Absent = Run.Absent
-runIn (Field.Is (Unsigned n)) = Run.Absent
-runIn (Field.Is (Negative n)) = Run.Absent
-runIn (Field.Is (Bytes start len)) = Run.At start len
-runIn (Field.Is (Value.Text start len)) = Run.At start len
-runIn (Field.Is (Value.Flag b)) = Run.Absent
-runIn (Field.Is Null) = Run.Absent
-
-unfoldable pub flagIn : Field → Bool
-flagIn Field.Absent = false
-flagIn (Field.Is (Unsigned n)) = false
-flagIn (Field.Is (Negative n)) = false
-flagIn (Field.Is (Bytes start len)) = false
-flagIn (Field.Is (Value.Text start len)) = false
-flagIn (Field.Is (Value.Flag b)) = b
-flagIn (Field.Is Null) = false
-
--- a tag by its length, and where it starts
-unfoldable pub shaOf : Run → Sha
-shaOf Run.Absent = Sha.Absent
-shaOf (Run.At start len) = pick (eqb len 32) Sha.Whole Sha.OtherLength
-
-unfoldable pub tagAt : Run → ℕ
-tagAt Run.Absent = 0
-tagAt (Run.At start len) = pick (eqb len 32) start 0
+-- "a malformed map gets rc 3": what the fields of a map ask for, where there is one
+unfoldable pub mapped : (List ℕ → Request) → Option (List ℕ) → Request
+mapped ask none = Request.Answer Reason.MalformedMap
+mapped ask (some f) = ask f
 
 -- "echo: "d" text, required"
-unfoldable pub echoOf : Run → Request
-echoOf Run.Absent = Request.Answer 3
-echoOf (Run.At start len) = Request.Echo start len
-
-unfoldable pub echoIn : Walked → Request
-echoIn Walked.Malformed = Request.Answer 3
-echoIn (Walked.Map f) = echoOf (runIn (f .text))
-
--- reset: any map will do
-unfoldable pub resetIn : Walked → Request
-resetIn Walked.Malformed = Request.Answer 3
-resetIn (Walked.Map f) = Request.Reset
+unfoldable pub echoWith : Run → Request
+echoWith Run.Absent = Request.Answer Reason.NoText
+echoWith (Run.At start len) = Request.Echo start len
 
 -- "Erase: "slot" unsigned, absent or 1"
-unfoldable pub eraseOf : Number → Request
-eraseOf Number.Absent = Request.Erase
-eraseOf (Number.Is n) = pick (eqb n 1) Request.Erase (Request.Answer 3)
+unfoldable pub eraseWith : Number → Request
+eraseWith Number.Absent = Request.Erase
+eraseWith (Number.Is n) = pick (eqb n 1) Request.Erase (Request.Answer Reason.OtherSlot)
 
-unfoldable pub eraseIn : Walked → Request
-eraseIn Walked.Malformed = Request.Answer 3
-eraseIn (Walked.Map f) = eraseOf (numberIn (f .slot))
-
--- upload: ""off" or "data" missing: rc 3"
-unfoldable pub uploadOf : Fields → Number → Run → Request
-uploadOf f Number.Absent x = Request.Answer 3
-uploadOf f (Number.Is off) Run.Absent = Request.Answer 3
-uploadOf f (Number.Is off) (Run.At start len) =
+-- upload: ""off" or "data" missing"; else its keys as they are
+unfoldable pub uploadWith : List ℕ → Number → Run → Request
+uploadWith f Number.Absent x = Request.Answer Reason.NoOffset
+uploadWith f (Number.Is off) Run.Absent = Request.Answer Reason.NoData
+uploadWith f (Number.Is off) (Run.At start len) =
     Request.Upload
     (record {
       off = off;
       start = start;
       size = len;
-      length = numberIn (f .len);
-      image = numberIn (f .image);
-      sha = shaOf (runIn (f .sha));
-      «tag_at» = tagAt (runIn (f .sha));
-      upgrade = flagIn (f .upgrade);
+      length = numberIn f Key.Len;
+      image = numberIn f Key.Image;
+      sha = runIn f Key.Sha;
+      upgrade = flagIn f Key.Upgrade;
     })
 
-unfoldable pub uploadIn : Walked → Request
-uploadIn Walked.Malformed = Request.Answer 3
-uploadIn (Walked.Map f) = uploadOf f (numberIn (f .off)) (runIn (f .chunk))
+abbrev pub uploadOf : List ℕ → Request
+uploadOf f = uploadWith f (numberIn f Key.Off) (runIn f Key.Data)
 
--- what a request of this command asks for: "a malformed map gets rc 3"; "Any other op, group and command together: rc 8"
+-- what a request of this command asks for: reset takes any map; "Any other op, group and command together: rc 8"
 unfoldable pub requestOf : Command → List ℕ → Request
-requestOf Command.Echo s = echoIn (mapFrom Kind.Echo s 8)
-requestOf Command.Reset s = resetIn (mapFrom Kind.Reset s 8)
-requestOf Command.Upload s = uploadIn (mapFrom Kind.Upload s 8)
-requestOf Command.Erase s = eraseIn (mapFrom Kind.Erase s 8)
-requestOf Command.Unknown s = Request.Answer 8
+requestOf Command.Echo s = mapped (λ f. echoWith (runIn f Key.Text)) (mapFrom Kind.Echo s 8)
+requestOf Command.Reset s = mapped (λ f. Request.Reset) (mapFrom Kind.Reset s 8)
+requestOf Command.Upload s = mapped uploadOf (mapFrom Kind.Upload s 8)
+requestOf Command.Erase s = mapped (λ f. eraseWith (numberIn f Key.Slot)) (mapFrom Kind.Erase s 8)
+requestOf Command.Unknown s = Request.Answer Reason.UnknownCommand
 
 -- a packet is a request: the right length, and op 0 or 2
 unfoldable pub isRequest : List ℕ → Bool

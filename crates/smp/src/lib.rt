@@ -1,11 +1,10 @@
 // A packet of the Simple Management Protocol: its header, requests read out of it as values, and replies written.
-use cbor::Value;
-use map::Field;
-use map::Fields;
+use laws::Number;
+use laws::Run;
+use map::Key;
 use map::Kind;
-use map::Walked;
-use slot::Number;
-use slot::Sha;
+use reason::Reason;
+use slot::Upload;
 ghost use mathlib.Core.Path.{_≡_};
 ghost use mathlib.Core.Bool.{not};
 ghost use mathlib.Core.List.{[], _∷_, _++_};
@@ -16,9 +15,9 @@ ghost use Rattle.laws.specs.Bytes.{pasted, ofBe16};
 ghost use Rattle.cbor.specs.Put.{Put};
 ghost use Rattle.cbor.specs.Write.{unsigned, textOf};
 ghost use Rattle.smp.specs.Packet.{headerIn, sized, headerBytes};
-ghost use Rattle.smp.specs.Request.{commandOf, numberIn, runIn, flagIn, shaOf, tagAt, requestOf, isRequest, readRequest};
-ghost use Rattle.smp.specs.Reply.{replyMap, replyHeader, replyPacket, Written};
-ghost use Rattle.smp.specs.Steps.{chunkOf, uploadFields, Sayable};
+ghost use Rattle.smp.specs.Request.{commandOf, uploadOf, requestOf, isRequest, readRequest};
+ghost use Rattle.smp.specs.Reply.{rcMap, replyMap, replyHeader, replyPacket};
+ghost use Rattle.smp.specs.Contract.{Written, Sayable};
 
 // The eight bytes before a packet's map.
 pub struct Header {
@@ -39,32 +38,13 @@ pub enum Command {
     Unknown,
 }
 
-// A string of the packet that a map may leave out: where it starts in the packet, and its length.
-pub enum Run {
-    Absent,
-    At { start: usize, len: usize },
-}
-
-// An upload request: the offset, where its data stands in the packet, and the keys that count at offset 0. The tag is named by where it
-// starts, 0 where it is not of 32 bytes.
-pub struct Chunk {
-    pub off: u64,
-    pub start: usize,
-    pub size: usize,
-    pub length: Number,
-    pub image: Number,
-    pub sha: Sha,
-    pub tag_at: usize,
-    pub upgrade: bool,
-}
-
 // A request as a value; strings are named by their places in the packet.
 pub enum Request {
-    // To be answered with this rc, and nothing done.
-    Answer(u8),
+    // To be answered with the rc of this reason, and nothing done.
+    Answer(Reason),
     Echo { start: usize, len: usize },
     Reset,
-    Upload(Chunk),
+    Upload(Upload),
     Erase,
 }
 
@@ -76,8 +56,10 @@ pub enum Reading {
 
 // What a reply says.
 pub enum Reply {
-    // This return code alone.
-    Rc(u8),
+    // A refusal for this reason.
+    Refused(Reason),
+    // Success, and nothing more.
+    Done,
     // Success, and the next expected offset.
     Placed(usize),
     // The text of the packet from start on.
@@ -160,95 +142,18 @@ fn command_of(h: Header) -> Command
     Command::Unknown
 }
 
-// The number of a field.
-pub fn number_in(f: Field) -> Number
-    ensures { λ r. ⌜ r ≡ numberIn f ⌝ }
-{
-    let Field::Is(value) = f else {
-        return Number::Absent;
-    };
-    match value {
-        Value::Unsigned(n) => Number::Is(n),
-        Value::Negative(_) => Number::Absent,
-        Value::Bytes { start: _, len: _ } => Number::Absent,
-        Value::Text { start: _, len: _ } => Number::Absent,
-        Value::Flag(_) => Number::Absent,
-        Value::Null => Number::Absent,
-    }
-}
-
-// The string of a field, bytes or text.
-pub fn run_in(f: Field) -> Run
-    ensures { λ r. ⌜ r ≡ runIn f ⌝ }
-{
-    let Field::Is(value) = f else {
-        return Run::Absent;
-    };
-    match value {
-        Value::Unsigned(_) => Run::Absent,
-        Value::Negative(_) => Run::Absent,
-        Value::Bytes { start, len } => Run::At { start, len },
-        Value::Text { start, len } => Run::At { start, len },
-        Value::Flag(_) => Run::Absent,
-        Value::Null => Run::Absent,
-    }
-}
-
-// The flag of a field; one that is left out is false.
-fn flag_in(f: Field) -> bool
-    ensures { λ r. ⌜ r ≡ flagIn f ⌝ }
-{
-    let Field::Is(value) = f else {
-        return false;
-    };
-    match value {
-        Value::Unsigned(_) => false,
-        Value::Negative(_) => false,
-        Value::Bytes { start: _, len: _ } => false,
-        Value::Text { start: _, len: _ } => false,
-        Value::Flag(b) => b,
-        Value::Null => false,
-    }
-}
-
-// A tag by its length.
-fn sha_of(run: Run) -> Sha
-    ensures { λ r. ⌜ r ≡ shaOf run ⌝ }
-{
-    let Run::At { start: _, len } = run else {
-        return Sha::Absent;
-    };
-    if len == 32 {
-        return Sha::Whole;
-    }
-    Sha::OtherLength
-}
-
-// Where a tag of 32 bytes starts, else 0.
-fn tag_at(run: Run) -> usize
-    ensures { λ r. ⌜ r ≡ tagAt run ⌝ }
-{
-    let Run::At { start, len } = run else {
-        return 0;
-    };
-    if len == 32 {
-        return start;
-    }
-    0
-}
-
 // The echo request in a packet.
 fn echo_in(s: &[u8]) -> Request
     ensures { λ r. ⌜ r ≡ requestOf Command.Echo (now (s .entry)) ⌝ }
 {
-    let walked = map::map_from(Kind::Echo, s, 8);
-    let Walked::Map(fields) = walked else {
-        return Request::Answer(3);
-    };
-    let text = fields.text;
-    let run = run_in(text);
-    let Run::At { start, len } = run else {
-        return Request::Answer(3);
+    let mut f = [0u64; 30];
+    let whole = map::map_from(Kind::Echo, s, 8, &mut f);
+    if !whole {
+        return Request::Answer(Reason::MalformedMap);
+    }
+    let text = map::run_in(&f, Key::Text);
+    let Run::At { start, len } = text else {
+        return Request::Answer(Reason::NoText);
     };
     Request::Echo { start, len }
 }
@@ -257,10 +162,11 @@ fn echo_in(s: &[u8]) -> Request
 fn reset_in(s: &[u8]) -> Request
     ensures { λ r. ⌜ r ≡ requestOf Command.Reset (now (s .entry)) ⌝ }
 {
-    let walked = map::map_from(Kind::Reset, s, 8);
-    let Walked::Map(_) = walked else {
-        return Request::Answer(3);
-    };
+    let mut f = [0u64; 30];
+    let whole = map::map_from(Kind::Reset, s, 8, &mut f);
+    if !whole {
+        return Request::Answer(Reason::MalformedMap);
+    }
     Request::Reset
 }
 
@@ -268,73 +174,58 @@ fn reset_in(s: &[u8]) -> Request
 fn erase_in(s: &[u8]) -> Request
     ensures { λ r. ⌜ r ≡ requestOf Command.Erase (now (s .entry)) ⌝ }
 {
-    let walked = map::map_from(Kind::Erase, s, 8);
-    let Walked::Map(fields) = walked else {
-        return Request::Answer(3);
-    };
-    let slot = fields.slot;
-    let number = number_in(slot);
-    let Number::Is(n) = number else {
+    let mut f = [0u64; 30];
+    let whole = map::map_from(Kind::Erase, s, 8, &mut f);
+    if !whole {
+        return Request::Answer(Reason::MalformedMap);
+    }
+    let slot = map::number_in(&f, Key::Slot);
+    let Number::Is(n) = slot else {
         return Request::Erase;
     };
     if n == 1 {
         return Request::Erase;
     }
-    Request::Answer(3)
+    Request::Answer(Reason::OtherSlot)
 }
 
-// The upload of a map's fields, with this offset and data.
-fn chunk_of(f: Fields, off: u64, start: usize, len: usize) -> Chunk
-    ensures { λ r. ⌜ r ≡ chunkOf f off start len ⌝ }
+// The upload request of a map's fields: "off" and "data" have to be there.
+fn upload_of(f: &[u64; 30]) -> Request
+    ensures { λ r. ⌜ r ≡ uploadOf (now (f .entry)) ⌝ }
 {
-    let len_field = f.len;
-    let image_field = f.image;
-    let sha_field = f.sha;
-    let upgrade_field = f.upgrade;
-    let tag = run_in(sha_field);
-    let length = number_in(len_field);
-    let image = number_in(image_field);
-    let sha = sha_of(tag);
-    let place = tag_at(tag);
-    let upgrade = flag_in(upgrade_field);
-    Chunk {
+    let offset = map::number_in(f, Key::Off);
+    let Number::Is(off) = offset else {
+        return Request::Answer(Reason::NoOffset);
+    };
+    let chunk = map::run_in(f, Key::Data);
+    let Run::At { start, len } = chunk else {
+        return Request::Answer(Reason::NoData);
+    };
+    let length = map::number_in(f, Key::Len);
+    let image = map::number_in(f, Key::Image);
+    let sha = map::run_in(f, Key::Sha);
+    let upgrade = map::flag_in(f, Key::Upgrade);
+    Request::Upload(Upload {
         off,
         start,
         size: len,
         length,
         image,
         sha,
-        tag_at: place,
         upgrade,
-    }
-}
-
-// The upload request of a map's fields.
-fn upload_of(f: Fields) -> Request
-    ensures { λ r. ⌜ r ≡ uploadFields f ⌝ }
-{
-    let off_field = f.off;
-    let number = number_in(off_field);
-    let Number::Is(off) = number else {
-        return Request::Answer(3);
-    };
-    let data_field = f.chunk;
-    let run = run_in(data_field);
-    let Run::At { start, len } = run else {
-        return Request::Answer(3);
-    };
-    Request::Upload(chunk_of(f, off, start, len))
+    })
 }
 
 // The upload request in a packet.
 fn upload_in(s: &[u8]) -> Request
     ensures { λ r. ⌜ r ≡ requestOf Command.Upload (now (s .entry)) ⌝ }
 {
-    let walked = map::map_from(Kind::Upload, s, 8);
-    let Walked::Map(fields) = walked else {
-        return Request::Answer(3);
-    };
-    upload_of(fields)
+    let mut f = [0u64; 30];
+    let whole = map::map_from(Kind::Upload, s, 8, &mut f);
+    if !whole {
+        return Request::Answer(Reason::MalformedMap);
+    }
+    upload_of(&f)
 }
 
 // What a packet of this command asks for.
@@ -346,7 +237,7 @@ fn request_of(command: Command, s: &[u8]) -> Request
         Command::Reset => reset_in(s),
         Command::Upload => upload_in(s),
         Command::Erase => erase_in(s),
-        Command::Unknown => Request::Answer(8),
+        Command::Unknown => Request::Answer(Reason::UnknownCommand),
     }
 }
 
@@ -419,8 +310,8 @@ pub fn put_number(buf: &mut [u8], at: usize, name: &[u8], n: u64) -> usize
 
 // Writes the map {"rc": n} into buf from place 8 on, and gives the place after it.
 fn put_rc(buf: &mut [u8], n: u8) -> usize
-    requires { ⌜ 8 + length (replyMap [] (Reply.Rc n)) ≤ length (now buf) ⌝ }
-    ensures { λ r. ⌜ Put r (now (buf .exit)) (now (buf .entry)) 8 (replyMap [] (Reply.Rc n)) ⌝ }
+    requires { ⌜ 8 + length (rcMap n) ≤ length (now buf) ⌝ }
+    ensures { λ r. ⌜ Put r (now (buf .exit)) (now (buf .entry)) 8 (rcMap n) ⌝ }
 {
     let next = cbor::put_head(buf, 8, 5, 1);
     put_number(buf, next, b"rc", n as u64)
@@ -455,7 +346,8 @@ fn put_map(buf: &mut [u8], s: &[u8], reply: Reply) -> usize
     ensures { λ r. ⌜ Put r (now (buf .exit)) (now (buf .entry)) 8 (replyMap (now (s .entry)) reply) ⌝ }
 {
     match reply {
-        Reply::Rc(n) => put_rc(buf, n),
+        Reply::Refused(why) => put_rc(buf, reason::rc(why)),
+        Reply::Done => put_rc(buf, 0),
         Reply::Placed(n) => put_placed(buf, n),
         Reply::Text { start, len } => put_echo(buf, s, start, len),
     }
@@ -489,15 +381,15 @@ fn put_reply(h: Header, s: &[u8], reply: Reply, buf: &mut [u8]) -> usize
     end
 }
 
-// Whether a reply to the request s fits into this many bytes, at least 32: only an echo's can be too long. (The numbers are bound so that
-// their range is known.)
+// Whether a reply to the request s fits into this many bytes, at least 32: only an echo's can be too long.
 fn fits_in(s: &[u8], reply: Reply, room: usize) -> bool
     requires { ⌜ 32 ≤ room ⌝ }
     requires { ⌜ Sayable (now s) reply ⌝ }
     ensures { λ r. ⌜ r ≡ not (ltb room (8 + length (replyMap (now (s .entry)) reply))) ⌝ }
 {
     match reply {
-        Reply::Rc(_n) => true,
+        Reply::Refused(_why) => true,
+        Reply::Done => true,
         Reply::Placed(_n) => true,
         Reply::Text { start: _, len } => 11 + cbor::head_len(len as u64) + len <= room,
     }
@@ -512,7 +404,7 @@ pub fn write_reply(h: Header, s: &[u8], reply: Reply, buf: &mut [u8]) -> usize
 {
     let fits = fits_in(s, reply, buf.len());
     if !fits {
-        return put_reply(h, s, Reply::Rc(7), buf);
+        return put_reply(h, s, Reply::Refused(Reason::ReplyTooLong), buf);
     }
     put_reply(h, s, reply, buf)
 }

@@ -15,21 +15,26 @@ use Rattle.base64.specs.Base64.{char, encode}
 use Rattle.frame.specs.Line.{frame}
 use Rattle.sender.specs.Sender.{frameCount, rawOf, startOf, stopOf, pieceOf, frameOf}
 use Rattle.cbor.specs.Write.{beBytes, headOf}
+use Rattle.map.specs.Fields.{indexOf, runIn}
 use Rattle.map.specs.Walk.{mapFrom}
 use Rattle.slot.specs.Session.{regionOk, sessionOk}
-use Rattle.slot.specs.Plan.{above, misSized, whole, sameTag, planLater, planSized, planLength, planFirst, planOf}
+use Rattle.slot.specs.Plan.{above, misSized, sameTag, planLater, planSized, planLength, planFirst, planOf}
 use Rattle.slot.specs.Act.{done}
 use Rattle.smp.specs.Packet.{sized, headerBytes}
-use Rattle.smp.specs.Request.{commandOf, runIn, echoOf, echoIn, requestOf, isRequest, readRequest}
+use Rattle.smp.specs.Request.{commandOf, mapped, echoWith, requestOf, isRequest, readRequest}
 use Rattle.smp.specs.Reply.{replyMap, replyPacket, replyBytes}
 use Rattle.controller.specs.Doing.{actFor, replyFor, asksReset}
-use Rattle.controller.specs.Handle.{carried, answered, handle}
+use Rattle.controller.specs.Handle.{asked, taking, actBy, bytesBy, saidBy, handled}
 use Rattle.host.specs.Write.{laterMap}
 use Rattle.starred.specs.Table.{Row, planned, starred, allRight}
 
 -- the test passes
 computed : allRight starred ≡ true
-unfolding allRight starred same both pick be16 shifted bits byte onward char encode frame frameCount rawOf startOf stopOf pieceOf frameOf planned planOf above planLater planSized planLength planFirst misSized whole sameTag regionOk sessionOk ofBe16 sized headerBytes isRequest readRequest commandOf requestOf echoIn echoOf runIn mapFrom replyMap replyPacket replyBytes beBytes headOf handle answered carried replyFor actFor asksReset done pasted laterMap
+unfolding allRight starred same both pick be16 ofBe16 pasted shifted bits byte onward char encode frame
+    frameCount rawOf startOf stopOf pieceOf frameOf planned planOf above planLater planSized planLength planFirst
+    misSized sameTag regionOk sessionOk sized headerBytes isRequest readRequest commandOf requestOf mapped echoWith
+    indexOf runIn mapFrom replyMap replyPacket replyBytes beBytes headOf asked taking actBy bytesBy saidBy handled
+    replyFor actFor asksReset done laterMap
 computed = refl
 
 -- what the test says of each row

@@ -4,16 +4,16 @@ use Prim.Native.Nat.{ℕ, _-_}
 use mathlib.Core.Bool.{Bool, true, false}
 use mathlib.Core.List.{List, [], _∷_}
 use lib.ListN.{length, replicate, take}
+use Rattle.laws.specs.declared.Number.{Number}
+use Rattle.laws.specs.declared.Run.{Run}
 use Rattle.laws.specs.Choice.{both}
 use Rattle.laws.specs.Bytes.{same}
+use Rattle.reason.specs.Rc.{rcOf}
 use Rattle.sender.specs.Sender.{frameCount, frameOf}
 use Rattle.slot.specs.declared.Slot.{Slot}
-use Rattle.slot.specs.declared.Session.{Session}
-use Rattle.slot.specs.declared.Number.{Number}
-use Rattle.slot.specs.declared.Sha.{Sha}
 use Rattle.slot.specs.declared.Upload.{Upload}
 use Rattle.slot.specs.declared.Plan.{Plan}
-use Rattle.slot.specs.Session.{closed}
+use Rattle.slot.specs.Session.{State, stateOf, noTag, closedIn}
 use Rattle.slot.specs.Plan.{planOf}
 use Rattle.smp.specs.declared.Reply.{Reply}
 use Rattle.smp.specs.Reply.{replyMap}
@@ -41,31 +41,35 @@ eightZeros =
 abbrev pub linesOf : ℕ → List ℕ
 linesOf n = frameCount n ∷ length (frameOf (zeros n) 0) ∷ length (frameOf (zeros n) (frameCount n - 1)) ∷ []
 
--- a slot of 4,096 bytes, a closed session, and one that is open at 8 of 16
+-- a slot of 4,096 bytes, no session, and one that is open at 8 of 16
 abbrev pub slot4096 : Slot
 slot4096 = record { start = 0; size = 4096 }
 
-abbrev pub openAt8 : Session
-openAt8 = record { running = true; length = 16; place = 8; tagged = false; tag = zeros 32 }
+abbrev pub noSession : State
+noSession = closedIn []
+
+abbrev pub openAt8 : State
+openAt8 = stateOf [] noTag (record { running = true; length = 16; place = 8; tagged = false })
 
 -- an upload request with an offset, so many data bytes and a length or none
 abbrev pub uploading : ℕ → ℕ → Number → Upload
-uploading off size length = record { off = off; size = size; length = length; image = Number.Absent; sha = Sha.Absent; tag = zeros 32; upgrade = false }
+uploading off size length =
+    record { off = off; start = 0; size = size; length = length; image = Number.Absent; sha = Run.Absent; upgrade = false }
 
 -- what an upload request comes to, as numbers: 0 and the rc, 1 and the offset that is told, 2 for data that is written, 3 and the length of
 -- a session that starts
-unfoldable pub planned : Session → Upload → List ℕ
-planned s u = numbers (planOf slot4096 s u)
+unfoldable pub planned : State → Upload → List ℕ
+planned st u = numbers (planOf slot4096 st [] u)
   where
     numbers : Plan → List ℕ
-    numbers (Plan.Refuse rc) = 0 ∷ rc ∷ []
+    numbers (Plan.Refuse why) = 0 ∷ rcOf why ∷ []
     numbers (Plan.Tell n) = 1 ∷ n ∷ []
     numbers Plan.Append = 2 ∷ []
     numbers (Plan.Start l) = 3 ∷ l ∷ []
 
 -- "Its reply: 01 00 00 05 00 00 00 00 A1 62 72 63 03 ("d" is missing)."
 abbrev pub zerosReply : List ℕ
-zerosReply = take 13 (handle (record { start = 0; size = 1 }) (record { memory = zeros 1; session = closed }) (zeros 8) (zeros 32) .reply)
+zerosReply = take 13 (handle (record { start = 0; size = 1 }) (closedIn (zeros 1)) (zeros 8) (zeros 32) .reply)
 
 -- all starred cases
 unfoldable pub starred : List Row
@@ -89,11 +93,11 @@ starred =
       given = laterMap (0x01 ∷ []) 512;
       wanted = 0xA2 ∷ 0x64 ∷ 0x64 ∷ 0x61 ∷ 0x74 ∷ 0x61 ∷ 0x41 ∷ 0x01 ∷ 0x63 ∷ 0x6F ∷ 0x66 ∷ 0x66 ∷ 0x19 ∷ 0x02 ∷ 0x00 ∷ [];
     }
-    ∷ record { given = planned closed (uploading 0 1 (Number.Is 4096)); wanted = 3 ∷ 4096 ∷ [] }
-    ∷ record { given = planned closed (uploading 0 1 (Number.Is 4097)); wanted = 0 ∷ 3 ∷ [] }
+    ∷ record { given = planned noSession (uploading 0 1 (Number.Is 4096)); wanted = 3 ∷ 4096 ∷ [] }
+    ∷ record { given = planned noSession (uploading 0 1 (Number.Is 4097)); wanted = 0 ∷ 3 ∷ [] }
     ∷ record { given = planned openAt8 (uploading 8 8 Number.Absent); wanted = 2 ∷ [] }
     ∷ record { given = planned openAt8 (uploading 8 9 Number.Absent); wanted = 0 ∷ 3 ∷ [] }
-    ∷ record { given = planned closed (uploading 5 1 Number.Absent); wanted = 1 ∷ 0 ∷ [] }
+    ∷ record { given = planned noSession (uploading 5 1 Number.Absent); wanted = 1 ∷ 0 ∷ [] }
     ∷ []
 
 -- every row gives what is wanted

@@ -1,11 +1,11 @@
 -- `controller::handle_packet` meets its contract: its tests are those of the definition, in the order of the refusals.
 -- Assumes nothing.
-use mathlib.Core.Path.{sym, _∙_}
+use mathlib.Core.Path.{sym, ap, _∙_}
 use native.Mathlib.Omega.{arith}
 use borrow.Author.Tests.{not-true, not-false}
-use Rattle.slot.specs.State.{stateOf}
-use Rattle.controller.specs.Handle.{possible}
-use Rattle.controller.proofs.Laws.{handle-impossible, handle-short, handle-other, handle-request}
+use Rattle.slot.specs.Session.{stateOf}
+use Rattle.controller.specs.Handle.{handled}
+use Rattle.controller.proofs.Laws.{taking-impossible, taking-short, taking-other, taking-request, handle-refused}
 use borrow.Author.Needs.{needs}
 use Rattle.controller.proofs.handle_packet.Statement.{statement}
 use Rattle.controller.proofs.handle_packet.Tie as tie
@@ -16,12 +16,12 @@ possible-requires c κs = search needs
 returns : tie.Need-returns
 returns c =
     let a = c .before .before .before .before .before .args in
-    sym (handle-impossible (a .slot) (stateOf (a .memory .now) (a .session)) (a .packet .now) (a .reply .now) (sym (c .before .possible .ensures) ∙ not-true (c .before .possible .result) (c .if1 .taken)))
+    sym (handle-refused (a .slot) (stateOf (a .memory .now) (a .tag .now) (a .session)) (a .packet .now) (a .reply .now) 1 (taking-impossible (a .slot) (stateOf (a .memory .now) (a .tag .now) (a .session)) (a .packet .now) (a .reply .now) (sym (c .before .possible .ensures) ∙ not-true _ (c .if1 .taken))))
 
 returns-2 : tie.Need-returns-2
 returns-2 c =
     let a = c .before .before .before .before .before .before .args in
-    sym (handle-short (a .slot) (stateOf (a .memory .now) (a .session)) (a .packet .now) (a .reply .now) (sym (c .before .before .possible .ensures) ∙ not-false (c .before .before .possible .result) (c .before .if1 .left)) (omega arith))
+    sym (handle-refused (a .slot) (stateOf (a .memory .now) (a .tag .now) (a .session)) (a .packet .now) (a .reply .now) 11 (taking-short (a .slot) (stateOf (a .memory .now) (a .tag .now) (a .session)) (a .packet .now) (a .reply .now) (sym (c .before .before .possible .ensures) ∙ not-false _ (c .before .if1 .left)) (omega arith)))
 
 read-request-requires : tie.Need-read-request-requires
 read-request-requires c κs = search needs
@@ -35,12 +35,12 @@ enum-told c = search needs
 returns-3 : tie.Need-returns-3
 returns-3 c =
     let a = c .before .before .before .before .before .before .before .before .before .args in
-    sym (handle-other (a .slot) (stateOf (a .memory .now) (a .session)) (a .packet .now) (a .reply .now) (sym (c .before .before .before .before .before .possible .ensures) ∙ not-false (c .before .before .before .before .before .possible .result) (c .before .before .before .before .if1 .left)) (omega arith) (sym (c .before .before .read-request .ensures) ∙ c .enum-told .given .1))
+    sym
+    (handle-refused (a .slot) (stateOf (a .memory .now) (a .tag .now) (a .session)) (a .packet .now) (a .reply .now) 10
+    (taking-other (a .slot) (stateOf (a .memory .now) (a .tag .now) (a .session)) (a .packet .now) (a .reply .now) (sym (c .before .before .before .before .before .possible .ensures) ∙ not-false _ (c .before .before .before .before .if1 .left)) (omega arith) (sym (c .before .before .read-request .ensures) ∙ c .enum-told .given .1)))
 
 respond-requires : tie.Need-respond-requires
-respond-requires c κs =
-    let a = c .before .before .before .before .before .before .before .before .before .before .before .before .args in
-    (sym (c .before .before .before .before .before .before .before .before .possible .ensures) ∙ not-false (c .before .before .before .before .before .before .before .before .possible .result) (c .before .before .before .before .before .before .before .if1 .left), omega arith, sym (c .before .before .before .before .before .read-request .ensures) ∙ c .before .before .before .reading .given .1)
+respond-requires c κs = ((sym (c .before .before .before .before .before .before .before .before .before .possible .ensures) ∙ not-false _ (c .before .before .before .before .before .before .before .before .if1 .left)), (omega arith, sym (c .before .before .before .before .before .before .read-request .ensures) ∙ c .before .before .before .before .reading .given .1))
 
 same-length : tie.Need-same-length
 same-length c = search needs
@@ -50,9 +50,10 @@ same-length-2 c = search needs
 
 returns-4 : tie.Need-returns-4
 returns-4 c =
-    let a = c .before .before .before .before .before .before .before .before .before .before .before .before .before .before .before .before .before .args in
+    let a = c .before .before .before .before .before .before .before .before .before .before .before .before .before .before .before .before .before .before .args in
     c .before .before .before .before .respond .ensures
-    ∙ sym (handle-request (a .slot) (stateOf (a .memory .now) (a .session)) (a .packet .now) (a .reply .now) (c .before .before .before .before .before .before .before .before .reading .given .0 .0) (sym (c .before .before .before .before .before .before .before .before .before .before .before .before .before .possible .ensures) ∙ not-false (c .before .before .before .before .before .before .before .before .before .before .before .before .before .possible .result) (c .before .before .before .before .before .before .before .before .before .before .before .before .if1 .left)) (omega arith) (sym (c .before .before .before .before .before .before .before .before .before .before .read-request .ensures) ∙ c .before .before .before .before .before .before .before .before .reading .given .1))
+    ∙ ap (handled (a .slot) (stateOf (a .memory .now) (a .tag .now) (a .session)) (a .packet .now) (a .reply .now))
+    (sym (taking-request (a .slot) (stateOf (a .memory .now) (a .tag .now) (a .session)) (a .packet .now) (a .reply .now) _ (sym (c .before .before .before .before .before .before .before .before .before .before .before .before .before .before .possible .ensures) ∙ not-false _ (c .before .before .before .before .before .before .before .before .before .before .before .before .before .if1 .left)) (omega arith) (sym (c .before .before .before .before .before .before .before .before .before .before .before .read-request .ensures) ∙ c .before .before .before .before .before .before .before .before .before .reading .given .1)))
 
 pub handle-packet-spec : {M : Type 1} → statement M
 handle-packet-spec =

@@ -1,8 +1,8 @@
 -- `controller::reply_to` meets its contract, case by case.
 -- Assumes nothing.
 use mathlib.Core.Path.{sym, ap}
-use native.Mathlib.Omega.{arith}
 use Rattle.slot.specs.declared.Plan.{Plan}
+use Rattle.slot.specs.Session.{stateOf}
 use Rattle.controller.specs.Doing.{replyTo}
 use borrow.Author.Needs.{needs}
 use Rattle.controller.proofs.reply_to.Statement.{statement}
@@ -17,35 +17,24 @@ enum-known-plan-2 c = search needs
 enum-told : tie.Need-enum-told
 enum-told c = search needs
 
-add-t7 : tie.Need-add-t7
-add-t7 c = omega (arith, c .before .before .before .pre (c .before .enum-told .given .1))
-
 enum-told-2 : tie.Need-enum-told-2
 enum-told-2 c = search needs
 
 returns : tie.Need-returns
 unfolding replyTo
-returns c =
-    let a = c .before .before .before .args in
-    sym (ap (λ (q : Plan). replyTo (a .session) (a .size) q) (c .before .plan .given .1))
+returns c = λ m tag. sym (ap (λ (q : Plan). replyTo q (stateOf m tag (c .before .before .before .args .after))) (c .before .plan .given .1))
 
 returns-2 : tie.Need-returns-2
 unfolding replyTo
-returns-2 c =
-    let a = c .before .before .before .args in
-    sym (ap (λ (q : Plan). replyTo (a .session) (a .size) q) (c .before .plan2 .given .1))
+returns-2 c = λ m tag. sym (ap (λ (q : Plan). replyTo q (stateOf m tag (c .before .before .before .args .after))) (c .before .plan2 .given .1))
 
 returns-3 : tie.Need-returns-3
 unfolding replyTo
-returns-3 c =
-    let a = c .before .before .before .args in
-    sym (ap (λ (q : Plan). replyTo (a .session) (a .size) q) (c .before .enum-told .given .1))
+returns-3 c = λ m tag. sym (ap (λ (q : Plan). replyTo q (stateOf m tag (c .before .before .args .after))) (c .enum-told .given .1))
 
 returns-4 : tie.Need-returns-4
 unfolding replyTo
-returns-4 c =
-    let a = c .before .before .args in
-    sym (ap (λ (q : Plan). replyTo (a .session) (a .size) q) (c .enum-told2 .given .1))
+returns-4 c = λ m tag. sym (ap (λ (q : Plan). replyTo q (stateOf m tag (c .before .before .args .after))) (c .enum-told2 .given .1))
 
 pub reply-to-spec : {M : Type 1} → statement M
 reply-to-spec =
@@ -54,7 +43,6 @@ reply-to-spec =
     enum-known-plan
     enum-known-plan-2
     enum-told
-    add-t7
     enum-told-2
     returns
     returns-2

@@ -24,14 +24,38 @@ is-large-requires-2 c κs = search needs
 
 returns-2 : tie.Need-returns-2
 unfolding valuesOf
-returns-2 c = simp (← c .before .before .before .before .before .number-in .ensures, ← c .before .before .before .before .is-large .ensures, c .before .before .before .if1 .left, ← c .before .before .number-in2 .ensures, ← c .before .is-large2 .ensures, c .if2 .taken, pick-yes, pick-no)
+returns-2 c =
+    simp (
+      ← c .before .before .before .before .before .number-in .ensures,
+      ← c .before .before .before .before .is-large .ensures,
+      c .before .before .before .if1 .left,
+      ← c .before .before .number-in2 .ensures,
+      ← c .before .is-large2 .ensures,
+      c .if2 .taken,
+      pick-no,
+      pick-yes,
+    )
 
-reply-of-requires : tie.Need-reply-of-requires
-reply-of-requires c κs = search needs
+run-in-requires : tie.Need-run-in-requires
+run-in-requires c κs = search needs
+
+reply-with-requires : tie.Need-reply-with-requires
+reply-with-requires c κs = search needs
 
 returns-3 : tie.Need-returns-3
 unfolding valuesOf
-returns-3 c = simp (← c .before .before .before .before .before .before .number-in .ensures, ← c .before .before .before .before .before .is-large .ensures, c .before .before .before .before .if1 .left, ← c .before .before .before .number-in2 .ensures, ← c .before .before .is-large2 .ensures, c .before .if2 .left, c .reply-of .ensures, pick-no)
+returns-3 c =
+    simp (
+      ← c .before .before .before .before .before .before .before .number-in .ensures,
+      ← c .before .before .before .before .before .before .is-large .ensures,
+      c .before .before .before .before .before .if1 .left,
+      ← c .before .before .before .before .number-in2 .ensures,
+      ← c .before .before .before .is-large2 .ensures,
+      c .before .before .if2 .left,
+      ← c .before .run-in .ensures,
+      c .reply-with .ensures,
+      pick-no,
+    )
 
 pub values-of-spec : {M : Type 1} → statement M
 values-of-spec =
@@ -43,5 +67,6 @@ values-of-spec =
     number-in-requires-2
     is-large-requires-2
     returns-2
-    reply-of-requires
+    run-in-requires
+    reply-with-requires
     returns-3)

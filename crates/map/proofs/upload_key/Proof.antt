@@ -8,7 +8,7 @@ use lib.ListN.{take, drop}
 use Rattle.laws.proofs.Choice.{pick-yes, pick-no}
 use Rattle.laws.specs.Bytes.{same}
 use Rattle.map.specs.Keys.{nameData, nameOff, nameLen, keyOf}
-use Rattle.map.specs.Steps.{secondName}
+use Rattle.map.specs.Contract.{laterName}
 use borrow.Author.Needs.{needs}
 use Rattle.map.proofs.upload_key.Statement.{statement}
 use Rattle.map.proofs.upload_key.Tie as tie
@@ -62,7 +62,7 @@ upload-later-requires : tie.Need-upload-later-requires
 upload-later-requires c κs = search needs
 
 returns-4 : tie.Need-returns-4
-unfolding keyOf secondName
+unfolding keyOf laterName
 returns-4 c =
     let a = c .before .before .before .before .before .before .before .before .before .before .before .args in
     let k : List ℕ = take (a .len) (drop (a .start) (a .s .now)) in

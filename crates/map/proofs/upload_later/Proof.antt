@@ -8,7 +8,7 @@ use lib.ListN.{take, drop}
 use Rattle.laws.proofs.Choice.{pick-yes, pick-no}
 use Rattle.laws.specs.Bytes.{same}
 use Rattle.map.specs.Keys.{nameImage, nameSha, nameUpgrade}
-use Rattle.map.specs.Steps.{secondName}
+use Rattle.map.specs.Contract.{laterName}
 use borrow.Author.Needs.{needs}
 use Rattle.map.proofs.upload_later.Statement.{statement}
 use Rattle.map.proofs.upload_later.Tie as tie
@@ -20,7 +20,7 @@ name-is-requires : tie.Need-name-is-requires
 name-is-requires c κs = search needs
 
 returns : tie.Need-returns
-unfolding secondName
+unfolding laterName
 returns c =
     let a = c .before .before .before .before .args in
     let k : List ℕ = take (a .len) (drop (a .start) (a .s .now)) in
@@ -34,7 +34,7 @@ name-is-requires-2 : tie.Need-name-is-requires-2
 name-is-requires-2 c κs = search needs
 
 returns-2 : tie.Need-returns-2
-unfolding secondName
+unfolding laterName
 returns-2 c =
     let a = c .before .before .before .before .before .before .before .args in
     let k : List ℕ = take (a .len) (drop (a .start) (a .s .now)) in
@@ -49,7 +49,7 @@ name-is-requires-3 : tie.Need-name-is-requires-3
 name-is-requires-3 c κs = search needs
 
 returns-3 : tie.Need-returns-3
-unfolding secondName
+unfolding laterName
 returns-3 c =
     let a = c .before .before .before .before .before .before .before .before .before .before .args in
     let k : List ℕ = take (a .len) (drop (a .start) (a .s .now)) in
@@ -59,7 +59,7 @@ returns-3 c =
     simp (e₁, e₂, e₃, pick-no, pick-yes)
 
 returns-4 : tie.Need-returns-4
-unfolding secondName
+unfolding laterName
 returns-4 c =
     let a = c .before .before .before .before .before .before .before .before .before .before .args in
     let k : List ℕ = take (a .len) (drop (a .start) (a .s .now)) in

@@ -3,7 +3,7 @@
 use mathlib.Core.Path.{sym, subst, _∙_}
 use native.Mathlib.Omega.{arith}
 use Rattle.slot.specs.declared.Slot.{Slot}
-use Rattle.slot.specs.State.{stateOf}
+use Rattle.slot.specs.Session.{stateOf}
 use Rattle.controller.specs.declared.Answer.{Answer}
 use Rattle.controller.specs.Handle.{said}
 use Rattle.port.proofs.Sessions.{SaidSmall, handled-is, handled-replied, handled-reset, handled-refused, given-small}
@@ -34,19 +34,25 @@ enum-known-said c = search needs
 
 store-session-requires : tie.Need-store-session-requires
 store-session-requires c κs =
+    let a = c .before .before .before .before .before .before .before .before .before .before .before .before .before .before .before .before .before .before .before .before .before .args in
+    let h = c .before .before .before .before .before .before .before .before .before .handle-packet in
+    let slot : Slot = record { start = a .start; size = a .size } in
+    let before = c .before .before .before .before .before .before .before .before .before .before .before .before .before .session-from in
+    let small =
+    given-small slot (stateOf (a .memory .now) (a .tag .now) (before .result)) (a .packet .now) (a .reply .now) (h .result)
+    (h .last .1 .1 .1 .0) (h .last .1 .1 .0) (h .last .1 .1 .1 .1 .1 .0) (h .ensures) (before .ensures .1) in
+    small .0
+
+cast-t36 : tie.Need-cast-t36
+cast-t36 c =
     let a = c .before .before .before .before .before .before .before .before .before .before .before .before .before .before .before .before .before .before .before .before .before .before .args in
     let h = c .before .before .before .before .before .before .before .before .before .before .handle-packet in
     let slot : Slot = record { start = a .start; size = a .size } in
-    let small = given-small slot (stateOf (a .memory .now) (c .before .before .before .before .before .before .before .before .before .before .before .before .before .session-from .result)) (a .packet .now) (a .reply .now) (h .result) (h .last .1 .1 .0) (h .last .1 .1 .1 .1 .0) (h .ensures) (c .before .before .before .before .before .before .before .before .before .before .before .before .before .session-from .ensures .1) in
-    small .0
-
-cast-t37 : tie.Need-cast-t37
-cast-t37 c =
-    let a = c .before .before .before .before .before .before .before .before .before .before .before .before .before .before .before .before .before .before .before .before .before .before .before .args in
-    let h = c .before .before .before .before .before .before .before .before .before .before .before .handle-packet in
-    let slot : Slot = record { start = a .start; size = a .size } in
-    let small = given-small slot (stateOf (a .memory .now) (c .before .before .before .before .before .before .before .before .before .before .before .before .before .before .session-from .result)) (a .packet .now) (a .reply .now) (h .result) (h .last .1 .1 .0) (h .last .1 .1 .1 .1 .0) (h .ensures) (c .before .before .before .before .before .before .before .before .before .before .before .before .before .before .session-from .ensures .1) in
-    omega (arith, subst (λ (x : Answer). SaidSmall (said x)) (c .before .before .before .before .said .given .1) (small .1))
+    let before = c .before .before .before .before .before .before .before .before .before .before .before .before .before .before .session-from in
+    let small =
+    given-small slot (stateOf (a .memory .now) (a .tag .now) (before .result)) (a .packet .now) (a .reply .now) (h .result)
+    (h .last .1 .1 .1 .0) (h .last .1 .1 .0) (h .last .1 .1 .1 .1 .1 .0) (h .ensures) (before .ensures .1) in
+    omega (arith, subst (λ (x : Answer). SaidSmall (said x)) (c .before .before .before .said .given .1) (small .1))
 
 same-length : tie.Need-same-length
 same-length c = search needs
@@ -56,31 +62,39 @@ same-length-2 c = search needs
 
 returns : tie.Need-returns
 returns c =
-    let a = c .before .before .before .before .before .before .before .before .before .before .before .before .before .before .before .before .before .before .before .before .before .before .before .before .args in
-    let h = c .before .before .before .before .before .before .before .before .before .before .before .before .handle-packet in
-    let slot : Slot = record { start = a .start; size = a .size } in
-    let small = given-small slot (stateOf (a .memory .now) (c .before .before .before .before .before .before .before .before .before .before .before .before .before .before .before .session-from .result)) (a .packet .now) (a .reply .now) (h .result) (h .last .1 .1 .0) (h .last .1 .1 .1 .1 .0) (h .ensures) (c .before .before .before .before .before .before .before .before .before .before .before .before .before .before .before .session-from .ensures .1) in
-    handled-replied (a .«record» .now) (a .tag .now) (a .answer .now) (h .result) (h .last .1 .1 .0) (h .last .1 .1 .1 .1 .0) (c .before .before .before .before .before .said .given .0 .0) (c .before .store-session .last .0) (c .before .store-session .last .1 .0) (c .before .before .before .before .before .said .given .1) (c .before .store-session .ensures .0) (c .before .store-session .ensures .1)
-    ∙ sym (handled-is (a .memory .now) (a .start) (a .size) (a .«record» .now) (a .tag .now) (a .packet .now) (a .reply .now) (a .answer .now) (h .result) (h .last .1 .1 .0) (h .last .1 .1 .1 .1 .0) (c .before .before .before .before .before .before .before .before .before .before .before .before .before .before .before .session-from .result) (c .before .before .before .before .before .before .before .before .before .before .before .before .before .before .before .session-from .ensures .0) (h .ensures))
+    let a = c .before .before .before .before .before .before .before .before .before .before .before .before .before .before .before .before .before .before .before .before .before .before .before .args in
+    let h = c .before .before .before .before .before .before .before .before .before .before .before .handle-packet in
+    let before = c .before .before .before .before .before .before .before .before .before .before .before .before .before .before .before .session-from in
+    handled-replied (a .«record» .now) (a .answer .now) (h .result) (h .last .1 .1 .1 .0) (h .last .1 .1 .0) (h .last .1 .1 .1 .1 .1 .0) (c .before .before .before .before .said .given .0 .0) (c .before .store-session .last .0)
+    (c .before .before .before .before .said .given .1) (c .before .store-session .ensures)
+    ∙ sym
+    (handled-is (a .memory .now) (a .start) (a .size) (a .«record» .now) (a .tag .now) (a .packet .now) (a .reply .now) (a .answer .now) (h .result)
+    (h .last .1 .1 .1 .0) (h .last .1 .1 .0) (h .last .1 .1 .1 .1 .1 .0) (before .result) (before .ensures .0) (h .ensures))
 
 enum-known-said-2 : tie.Need-enum-known-said-2
 enum-known-said-2 c = search needs
 
 store-session-requires-2 : tie.Need-store-session-requires-2
 store-session-requires-2 c κs =
+    let a = c .before .before .before .before .before .before .before .before .before .before .before .before .before .before .before .before .before .before .before .before .before .args in
+    let h = c .before .before .before .before .before .before .before .before .before .handle-packet in
+    let slot : Slot = record { start = a .start; size = a .size } in
+    let before = c .before .before .before .before .before .before .before .before .before .before .before .before .before .session-from in
+    let small =
+    given-small slot (stateOf (a .memory .now) (a .tag .now) (before .result)) (a .packet .now) (a .reply .now) (h .result)
+    (h .last .1 .1 .1 .0) (h .last .1 .1 .0) (h .last .1 .1 .1 .1 .1 .0) (h .ensures) (before .ensures .1) in
+    small .0
+
+cast-t39 : tie.Need-cast-t39
+cast-t39 c =
     let a = c .before .before .before .before .before .before .before .before .before .before .before .before .before .before .before .before .before .before .before .before .before .before .args in
     let h = c .before .before .before .before .before .before .before .before .before .before .handle-packet in
     let slot : Slot = record { start = a .start; size = a .size } in
-    let small = given-small slot (stateOf (a .memory .now) (c .before .before .before .before .before .before .before .before .before .before .before .before .before .session-from .result)) (a .packet .now) (a .reply .now) (h .result) (h .last .1 .1 .0) (h .last .1 .1 .1 .1 .0) (h .ensures) (c .before .before .before .before .before .before .before .before .before .before .before .before .before .session-from .ensures .1) in
-    small .0
-
-cast-t41 : tie.Need-cast-t41
-cast-t41 c =
-    let a = c .before .before .before .before .before .before .before .before .before .before .before .before .before .before .before .before .before .before .before .before .before .before .before .args in
-    let h = c .before .before .before .before .before .before .before .before .before .before .before .handle-packet in
-    let slot : Slot = record { start = a .start; size = a .size } in
-    let small = given-small slot (stateOf (a .memory .now) (c .before .before .before .before .before .before .before .before .before .before .before .before .before .before .session-from .result)) (a .packet .now) (a .reply .now) (h .result) (h .last .1 .1 .0) (h .last .1 .1 .1 .1 .0) (h .ensures) (c .before .before .before .before .before .before .before .before .before .before .before .before .before .before .session-from .ensures .1) in
-    omega (arith, subst (λ (x : Answer). SaidSmall (said x)) (c .before .before .before .before .said2 .given .1) (small .1))
+    let before = c .before .before .before .before .before .before .before .before .before .before .before .before .before .before .session-from in
+    let small =
+    given-small slot (stateOf (a .memory .now) (a .tag .now) (before .result)) (a .packet .now) (a .reply .now) (h .result)
+    (h .last .1 .1 .1 .0) (h .last .1 .1 .0) (h .last .1 .1 .1 .1 .1 .0) (h .ensures) (before .ensures .1) in
+    omega (arith, subst (λ (x : Answer). SaidSmall (said x)) (c .before .before .before .said2 .given .1) (small .1))
 
 same-length-3 : tie.Need-same-length-3
 same-length-3 c = search needs
@@ -90,12 +104,14 @@ same-length-4 c = search needs
 
 returns-2 : tie.Need-returns-2
 returns-2 c =
-    let a = c .before .before .before .before .before .before .before .before .before .before .before .before .before .before .before .before .before .before .before .before .before .before .before .before .args in
-    let h = c .before .before .before .before .before .before .before .before .before .before .before .before .handle-packet in
-    let slot : Slot = record { start = a .start; size = a .size } in
-    let small = given-small slot (stateOf (a .memory .now) (c .before .before .before .before .before .before .before .before .before .before .before .before .before .before .before .session-from .result)) (a .packet .now) (a .reply .now) (h .result) (h .last .1 .1 .0) (h .last .1 .1 .1 .1 .0) (h .ensures) (c .before .before .before .before .before .before .before .before .before .before .before .before .before .before .before .session-from .ensures .1) in
-    handled-reset (a .«record» .now) (a .tag .now) (a .answer .now) (h .result) (h .last .1 .1 .0) (h .last .1 .1 .1 .1 .0) (c .before .before .before .before .before .said2 .given .0 .0) (c .before .store-session2 .last .0) (c .before .store-session2 .last .1 .0) (c .before .before .before .before .before .said2 .given .1) (c .before .store-session2 .ensures .0) (c .before .store-session2 .ensures .1)
-    ∙ sym (handled-is (a .memory .now) (a .start) (a .size) (a .«record» .now) (a .tag .now) (a .packet .now) (a .reply .now) (a .answer .now) (h .result) (h .last .1 .1 .0) (h .last .1 .1 .1 .1 .0) (c .before .before .before .before .before .before .before .before .before .before .before .before .before .before .before .session-from .result) (c .before .before .before .before .before .before .before .before .before .before .before .before .before .before .before .session-from .ensures .0) (h .ensures))
+    let a = c .before .before .before .before .before .before .before .before .before .before .before .before .before .before .before .before .before .before .before .before .before .before .before .args in
+    let h = c .before .before .before .before .before .before .before .before .before .before .before .handle-packet in
+    let before = c .before .before .before .before .before .before .before .before .before .before .before .before .before .before .before .session-from in
+    handled-reset (a .«record» .now) (a .answer .now) (h .result) (h .last .1 .1 .1 .0) (h .last .1 .1 .0) (h .last .1 .1 .1 .1 .1 .0) (c .before .before .before .before .said2 .given .0 .0) (c .before .store-session2 .last .0)
+    (c .before .before .before .before .said2 .given .1) (c .before .store-session2 .ensures)
+    ∙ sym
+    (handled-is (a .memory .now) (a .start) (a .size) (a .«record» .now) (a .tag .now) (a .packet .now) (a .reply .now) (a .answer .now) (h .result)
+    (h .last .1 .1 .1 .0) (h .last .1 .1 .0) (h .last .1 .1 .1 .1 .1 .0) (before .result) (before .ensures .0) (h .ensures))
 
 enum-known-said-3 : tie.Need-enum-known-said-3
 enum-known-said-3 c = search needs
@@ -113,8 +129,12 @@ returns-3 : tie.Need-returns-3
 returns-3 c =
     let a = c .before .before .before .before .before .before .before .before .before .before .before .before .before .before .before .before .before .before .before .before .before .args in
     let h = c .before .before .before .before .before .before .before .before .before .handle-packet in
-    handled-refused (a .«record» .now) (a .tag .now) (a .answer .now) (h .result) (h .last .1 .1 .0) (h .last .1 .1 .1 .1 .0) (c .number .result) (c .before .before .said3 .given .0 .0) (c .before .before .said3 .given .1) (c .number .ensures)
-    ∙ sym (handled-is (a .memory .now) (a .start) (a .size) (a .«record» .now) (a .tag .now) (a .packet .now) (a .reply .now) (a .answer .now) (h .result) (h .last .1 .1 .0) (h .last .1 .1 .1 .1 .0) (c .before .before .before .before .before .before .before .before .before .before .before .before .session-from .result) (c .before .before .before .before .before .before .before .before .before .before .before .before .session-from .ensures .0) (h .ensures))
+    let before = c .before .before .before .before .before .before .before .before .before .before .before .before .before .session-from in
+    handled-refused (a .«record» .now) (a .answer .now) (h .result) (h .last .1 .1 .1 .0) (h .last .1 .1 .0) (h .last .1 .1 .1 .1 .1 .0) (c .number .result) (c .before .before .said3 .given .0 .0)
+    (c .before .before .said3 .given .1) (c .number .ensures)
+    ∙ sym
+    (handled-is (a .memory .now) (a .start) (a .size) (a .«record» .now) (a .tag .now) (a .packet .now) (a .reply .now) (a .answer .now) (h .result)
+    (h .last .1 .1 .1 .0) (h .last .1 .1 .0) (h .last .1 .1 .1 .1 .1 .0) (before .result) (before .ensures .0) (h .ensures))
 
 pub bg-handle-spec : {M : Type 1} → statement M
 bg-handle-spec =
@@ -128,13 +148,13 @@ bg-handle-spec =
     handle-packet-requires
     enum-known-said
     store-session-requires
-    cast-t37
+    cast-t36
     same-length
     same-length-2
     returns
     enum-known-said-2
     store-session-requires-2
-    cast-t41
+    cast-t39
     same-length-3
     same-length-4
     returns-2

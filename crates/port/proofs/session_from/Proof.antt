@@ -13,8 +13,10 @@ flag-of-requires-2 c κs = search needs
 
 returns : tie.Need-returns
 returns c =
-    let a = c .before .before .args in
-    (λ i. record { running = c .before .flag-of .ensures i; length = a .length; place = a .place; tagged = c .flag-of2 .ensures i; tag = a .tag }, (omega arith, omega arith))
+    let a = c .before .before .args in (
+      λ i. record { running = c .before .flag-of .ensures i; length = a .length; place = a .place; tagged = c .flag-of2 .ensures i },
+      (omega arith, omega arith),
+    )
 
 pub session-from-spec : {M : Type 1} → statement M
 session-from-spec = tie.close (tie.spec flag-of-requires flag-of-requires-2 returns)

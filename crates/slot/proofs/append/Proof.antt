@@ -1,12 +1,14 @@
 -- `slot::append` meets its contract: the data fits after the session's place, and the copy fills the start of the part that begins there.
 -- Assumes nothing.
 use mathlib.Core.Path.{ap₂}
-use Prim.Native.Nat.{_+_}
+use mathlib.Core.List.{List}
+use Prim.Native.Nat.{ℕ, _+_}
 use native.Mathlib.Omega.{arith}
 use lib.ListN.{length, length-take, length-drop}
 use Rattle.laws.proofs.Lists.{copied-part}
+use Rattle.slot.specs.declared.Session.{Session}
+use Rattle.slot.specs.Session.{stateOf}
 use Rattle.slot.specs.Act.{done}
-use Rattle.slot.specs.State.{stateOf}
 use Rattle.slot.proofs.Memory.{Room, append-room}
 use borrow.Author.Needs.{needs}
 use Rattle.slot.proofs.append.Statement.{statement}
@@ -16,7 +18,8 @@ use Rattle.slot.proofs.append.Tie as tie
 room : (c : tie.Start) → Room (c .args .slot) (c .args .session) (length (c .args .«data» .now)) (length (c .args .memory .now))
 room c =
     let a = c .args in
-    append-room (a .slot) (a .session) (a .«data» .now) (length (a .memory .now)) (c .pre .0) (c .pre .1 .0) (c .pre .1 .1)
+    let p = c .pre in
+    append-room (a .slot) (a .session) (a .session .place) (a .«data» .now) (length (a .memory .now)) (p .0) (p .1 .0) (p .1 .1)
 
 add-at : tie.Need-add-at
 add-at c = omega (arith, room (c .before .before .before .before))
@@ -44,9 +47,9 @@ unfolding done
 returns c =
     let a = c .before .before .before .before .before .before .before .before .before .args in
     let copied = c .before .before .before .copy in
-    ap₂ stateOf
-    (copied-part (a .memory .now) (a .slot .start + a .session .place) (a .«data» .now) (copied .last .1 .0) (copied .ensures .1))
-    (c .grow .ensures)
+    let at = a .slot .start + a .session .place in
+    let memory = copied-part (a .memory .now) at (a .«data» .now) (copied .last .1 .0) (copied .ensures .1) in
+    λ tag off. ap₂ (λ (m : List ℕ) (s : Session). stateOf m tag s) memory (c .grow .ensures)
 
 pub append-spec : {M : Type 1} → statement M
 append-spec =

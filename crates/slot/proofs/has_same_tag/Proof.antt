@@ -1,43 +1,69 @@
 -- `slot::has_same_tag` meets its contract: no open session, no tag of it, no tag of the request, and then the two tags compared.
 -- Assumes nothing.
+use mathlib.Core.Path.{sym, ap, _∙_}
+use Prim.Native.Nat.{_+_, _≤_}
+use native.Mathlib.Omega.{arith}
+use lib.ListN.{length}
 use borrow.Author.Tests.{not-true, not-false}
-use Rattle.slot.proofs.Laws.{tag-compared}
-use mathlib.Core.Path.{sym, _∙_}
-use Rattle.laws.proofs.Choice.{both-yes, both-no}
-use Rattle.slot.specs.Plan.{sameTag}
+use Rattle.laws.specs.Bytes.{same}
+use Rattle.slot.specs.Session.{stateOf}
+use Rattle.slot.proofs.Laws.{tag-closed, tag-untagged, tag-absent, tag-compared, within-at, part-cut}
 use borrow.Author.Needs.{needs}
 use Rattle.slot.proofs.has_same_tag.Statement.{statement}
 use Rattle.slot.proofs.has_same_tag.Tie as tie
 
+-- where the request has a tag: it ends within the bytes that the request came in
+inside : (c : tie.After-sha)
+    → c .sha .given .0 .0 + c .sha .given .0 .1 .0 ≤ length (c .before .before .before .before .before .before .before .args .source .now)
+inside c =
+    let s = c .before .before .before .before .before .before .before in
+    within-at (s .args .source .now) (s .args .sha) (c .sha .given .0 .0) (c .sha .given .0 .1 .0) (c .sha .given .1) (s .pre)
+
 returns : tie.Need-returns
-unfolding sameTag
-returns c = simp (not-true (c .before .before .args .session .running) (c .if1 .taken), both-no)
+returns c =
+    let a = c .before .before .before .args in
+    λ m. sym (tag-closed (stateOf m (a .tag .now) (a .session)) (a .source .now) (a .sha) (not-true (a .session .running) (c .if1 .taken)))
 
 returns-2 : tie.Need-returns-2
-unfolding sameTag
-returns-2 c = simp (not-false (c .before .before .before .before .args .session .running) (c .before .before .if1 .left), not-true (c .before .before .before .before .args .session .tagged) (c .if2 .taken), both-yes, both-no)
+returns-2 c =
+    let a = c .before .before .before .before .before .args in
+    λ m. sym (tag-untagged (stateOf m (a .tag .now) (a .session)) (a .source .now) (a .sha) (not-true (a .session .tagged) (c .if2 .taken)))
 
-is-whole-requires : tie.Need-is-whole-requires
-is-whole-requires c κs = search needs
+enum-known-sha : tie.Need-enum-known-sha
+enum-known-sha c = search needs
+
+enum-told : tie.Need-enum-told
+enum-told c = search needs
 
 returns-3 : tie.Need-returns-3
-unfolding sameTag
-returns-3 c = simp (not-false (c .before .before .before .before .before .before .args .session .running) (c .before .before .before .before .if1 .left), not-false (c .before .before .before .before .before .before .args .session .tagged) (c .before .before .if2 .left), ← c .before .is-whole .ensures, not-true (c .before .is-whole .result) (c .if3 .taken), both-yes, both-no)
+returns-3 c =
+    let a = c .before .before .before .before .before .before .before .args in
+    λ m. sym (tag-absent (stateOf m (a .tag .now) (a .session)) (a .source .now) (a .sha) (c .enum-told .given .1))
 
-slice-aggregate-equal : tie.Need-slice-aggregate-equal
-slice-aggregate-equal c = search needs
+add-end : tie.Need-add-end
+add-end c = omega (arith, inside (c .before))
 
-slice-aggregate-equal-2 : tie.Need-slice-aggregate-equal-2
-slice-aggregate-equal-2 c = search needs
+sub-is-tag : tie.Need-sub-is-tag
+sub-is-tag c = search needs
 
-equal-requires : tie.Need-equal-requires
-equal-requires c κs = search needs
+part-is-tag-start : tie.Need-part-is-tag-start
+part-is-tag-start c = search needs
+
+part-is-tag-end : tie.Need-part-is-tag-end
+part-is-tag-end c = omega (arith, inside (c .before .before))
+
+is-tag-requires : tie.Need-is-tag-requires
+is-tag-requires c κs = search needs
 
 returns-4 : tie.Need-returns-4
 returns-4 c =
     let a = c .before .before .before .before .before .before .before .before .before .before .before .args in
-    let there = sym (c .before .before .before .before .before .before .is-whole .ensures) ∙ not-false (c .before .before .before .before .before .before .is-whole .result) (c .before .before .before .before .before .if3 .left) in
-    c .equal .ensures ∙ sym (tag-compared (a .session) (a .upload) (not-false (a .session .running) (c .before .before .before .before .before .before .before .before .before .if1 .left)) (not-false (a .session .tagged) (c .before .before .before .before .before .before .before .if2 .left)) there)
+    let sha = c .before .before .before .before .sha .given in
+    let running = not-false (a .session .running) (c .before .before .before .before .before .before .before .before .if1 .left) in
+    let tagged = not-false (a .session .tagged) (c .before .before .before .before .before .before .if2 .left) in
+    λ m. c .is-tag .ensures
+    ∙ ap (same (a .tag .now)) (part-cut (a .source .now) (sha .0 .0) (sha .0 .1 .0))
+    ∙ sym (tag-compared (stateOf m (a .tag .now) (a .session)) (a .source .now) (a .sha) (sha .0 .0) (sha .0 .1 .0) running tagged (sha .1))
 
 pub has-same-tag-spec : {M : Type 1} → statement M
 has-same-tag-spec =
@@ -45,9 +71,12 @@ has-same-tag-spec =
     (tie.spec
     returns
     returns-2
-    is-whole-requires
+    enum-known-sha
+    enum-told
     returns-3
-    slice-aggregate-equal
-    slice-aggregate-equal-2
-    equal-requires
+    add-end
+    sub-is-tag
+    part-is-tag-start
+    part-is-tag-end
+    is-tag-requires
     returns-4)

@@ -1,5 +1,6 @@
 -- `slot::is_mis_sized` meets its contract: only a tag of another length is not of 32 bytes.
 -- Assumes nothing.
+use mathlib.Core.Path.{sym, ap}
 use Rattle.slot.specs.Plan.{misSized}
 use borrow.Author.Needs.{needs}
 use Rattle.slot.proofs.is_mis_sized.Statement.{statement}
@@ -8,24 +9,16 @@ use Rattle.slot.proofs.is_mis_sized.Tie as tie
 enum-told : tie.Need-enum-told
 enum-told c = search needs
 
-enum-told-2 : tie.Need-enum-told-2
-enum-told-2 c = search needs
-
-enum-told-3 : tie.Need-enum-told-3
-enum-told-3 c = search needs
+enum-known-sha : tie.Need-enum-known-sha
+enum-known-sha c = search needs
 
 returns : tie.Need-returns
 unfolding misSized
-returns c = simp (c .enum-told .given .1)
+returns c = sym (ap misSized (c .enum-told .given .1))
 
 returns-2 : tie.Need-returns-2
 unfolding misSized
-returns-2 c = simp (c .enum-told2 .given .1)
-
-returns-3 : tie.Need-returns-3
-unfolding misSized
-returns-3 c = simp (c .enum-told3 .given .1)
+returns-2 c = sym (ap misSized (c .before .sha .given .1))
 
 pub is-mis-sized-spec : {M : Type 1} → statement M
-is-mis-sized-spec =
-    tie.close (tie.spec enum-told enum-told-2 enum-told-3 returns returns-2 returns-3)
+is-mis-sized-spec = tie.close (tie.spec enum-told enum-known-sha returns returns-2)

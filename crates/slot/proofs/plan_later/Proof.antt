@@ -13,34 +13,40 @@ use Rattle.slot.proofs.plan_later.Tie as tie
 
 returns : tie.Need-returns
 unfolding planLater
-returns c = simp (not-true (c .before .before .args .session .running) (c .if1 .taken), pick-yes)
+returns c = λ m tag. simp (not-true (c .before .before .args .session .running) (c .if1 .taken), pick-yes)
 
 returns-2 : tie.Need-returns-2
 unfolding planLater
-returns-2 c = simp (not-false (c .before .before .before .before .args .session .running) (c .before .before .if1 .left), ne-eqb _ _ (c .if2 .taken), pick-yes, pick-no)
+returns-2 c =
+    let running = not-false (c .before .before .before .before .args .session .running) (c .before .before .if1 .left) in
+    λ m tag. simp (running, ne-eqb _ _ (c .if2 .taken), pick-yes, pick-no)
 
 ends-beyond-requires : tie.Need-ends-beyond-requires
-ends-beyond-requires c κs = c .before .before .before .before .pre (not-false (c .before .before .before .before .args .session .running) (c .before .before .if1 .left))
+ends-beyond-requires c κs =
+    let s = c .before .before .before .before in
+    s .pre (not-false (s .args .session .running) (c .before .before .if1 .left))
 
 returns-3 : tie.Need-returns-3
 unfolding planLater
 returns-3 c =
-    let a = c .before .before .before .before .before .before .args in
-    let s = a .session in
-    let u = a .upload in
+    let s = c .before .before .before .before .before .before .args .session in
+    let u = c .before .before .before .before .before .before .args .upload in
     let running = not-false (s .running) (c .before .before .before .before .if1 .left) in
-    let beyond : ltb (s .length) (u .off + u .size) ≡ true = sym (beyond-place (s .length) (s .place) (u .off) (u .size) (c .before .before .before .before .before .before .pre running) (c .before .before .if2 .left)) ∙ sym (c .before .ends-beyond .ensures) ∙ c .if3 .taken in
-    simp (running, eq-eqb _ _ (c .before .before .if2 .left), beyond, pick-yes, pick-no)
+    let placed = c .before .before .before .before .before .before .pre running in
+    let same = beyond-place (s .length) (s .place) (u .off) (u .size) placed (c .before .before .if2 .left) in
+    let beyond : ltb (s .length) (u .off + u .size) ≡ true = sym same ∙ sym (c .before .ends-beyond .ensures) ∙ c .if3 .taken in
+    λ m tag. simp (running, eq-eqb _ _ (c .before .before .if2 .left), beyond, pick-yes, pick-no)
 
 returns-4 : tie.Need-returns-4
 unfolding planLater
 returns-4 c =
-    let a = c .before .before .before .before .before .before .args in
-    let s = a .session in
-    let u = a .upload in
+    let s = c .before .before .before .before .before .before .args .session in
+    let u = c .before .before .before .before .before .before .args .upload in
     let running = not-false (s .running) (c .before .before .before .before .if1 .left) in
-    let beyond : ltb (s .length) (u .off + u .size) ≡ false = sym (beyond-place (s .length) (s .place) (u .off) (u .size) (c .before .before .before .before .before .before .pre running) (c .before .before .if2 .left)) ∙ sym (c .before .ends-beyond .ensures) ∙ c .if3 .left in
-    simp (running, eq-eqb _ _ (c .before .before .if2 .left), beyond, pick-no)
+    let placed = c .before .before .before .before .before .before .pre running in
+    let same = beyond-place (s .length) (s .place) (u .off) (u .size) placed (c .before .before .if2 .left) in
+    let beyond : ltb (s .length) (u .off + u .size) ≡ false = sym same ∙ sym (c .before .ends-beyond .ensures) ∙ c .if3 .left in
+    λ m tag. simp (running, eq-eqb _ _ (c .before .before .if2 .left), beyond, pick-no)
 
 pub plan-later-spec : {M : Type 1} → statement M
 plan-later-spec = tie.close (tie.spec returns returns-2 ends-beyond-requires returns-3 returns-4)

@@ -16,7 +16,9 @@ session-possible-requires : tie.Need-session-possible-requires
 session-possible-requires c κs = search needs
 
 returns-2 : tie.Need-returns-2
-returns-2 c = simp (← c .before .before .region-possible .ensures, not-false (c .before .before .region-possible .result) (c .before .if1 .left), both-yes, c .session-possible .ensures)
+returns-2 c =
+    let region = c .before .before .region-possible in
+    simp (← region .ensures, not-false (region .result) (c .before .if1 .left), both-yes, c .session-possible .ensures)
 
 pub possible-spec : {M : Type 1} → statement M
 possible-spec =

@@ -16,7 +16,9 @@ returns-3 : tie.Need-returns-3
 returns-3 c = sym (region-past (c .before .before .before .args .slot) (c .before .before .before .args .room) (omega arith))
 
 returns-4 : tie.Need-returns-4
-returns-4 c = region-last (c .before .before .before .before .args .slot) (c .before .before .before .before .args .room) (c .before .before .before .if1 .left) (c .before .before .if2 .left) (c .before .if3 .left)
+returns-4 c =
+    let a = c .before .before .before .before .args in
+    region-last (a .slot) (a .room) (c .before .before .before .if1 .left) (c .before .before .if2 .left) (c .before .if3 .left)
 
 pub region-possible-spec : {M : Type 1} → statement M
 region-possible-spec = tie.close (tie.spec returns returns-2 returns-3 returns-4)

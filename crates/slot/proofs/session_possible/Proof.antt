@@ -13,18 +13,30 @@ returns c = simp (not-true (c .before .before .args .session .running) (c .if1 .
 
 returns-2 : tie.Need-returns-2
 unfolding sessionOk
-returns-2 c = simp (not-false (c .before .before .before .before .args .session .running) (c .before .before .if1 .left), lt-leb _ _ (c .if2 .taken), pick-yes, both-no)
+returns-2 c =
+    let running = not-false (c .before .before .before .before .args .session .running) (c .before .before .if1 .left) in
+    simp (running, lt-leb _ _ (c .if2 .taken), pick-yes, both-no)
 
 returns-3 : tie.Need-returns-3
 unfolding sessionOk
-returns-3 c = simp (not-false (c .before .before .before .before .before .before .before .args .session .running) (c .before .before .before .before .before .if1 .left), le-leb _ _ (c .before .before .before .if2 .left), lt-leb _ _ (c .if3 .taken), pick-yes, both-yes, both-no)
+returns-3 c =
+    let running = not-false (c .before .before .before .before .before .before .before .args .session .running) (c .before .before .before .before .before .if1 .left) in
+    simp (running, le-leb _ _ (c .before .before .before .if2 .left), lt-leb _ _ (c .if3 .taken), pick-yes, both-yes, both-no)
 
 returns-4 : tie.Need-returns-4
 unfolding sessionOk
-returns-4 c = simp (not-false (c .before .before .before .before .before .before .before .before .before .args .session .running) (c .before .before .before .before .before .before .before .if1 .left), le-leb _ _ (c .before .before .before .before .before .if2 .left), le-leb _ _ (c .before .before .if3 .left), lt-leb _ _ (c .if4 .taken), pick-yes, both-yes, both-no)
+returns-4 c =
+    let s = c .before .before .before .before .before .before .before .before .before .args .session in
+    let running = not-false (s .running) (c .before .before .before .before .before .before .before .if1 .left) in
+    let some = le-leb _ _ (c .before .before .before .before .before .if2 .left) in
+    simp (running, some, le-leb _ _ (c .before .before .if3 .left), lt-leb _ _ (c .if4 .taken), pick-yes, both-yes, both-no)
 
 returns-5 : tie.Need-returns-5
-returns-5 c = session-last (c .before .before .before .before .before .before .before .before .before .before .args .slot) (c .before .before .before .before .before .before .before .before .before .before .args .session) (not-false (c .before .before .before .before .before .before .before .before .before .before .args .session .running) (c .before .before .before .before .before .before .before .before .if1 .left)) (c .before .before .before .before .before .before .if2 .left) (c .before .before .before .if3 .left) (c .before .if4 .left)
+returns-5 c =
+    let a = c .before .before .before .before .before .before .before .before .before .before .args in
+    let running = not-false (a .session .running) (c .before .before .before .before .before .before .before .before .if1 .left) in
+    let some = c .before .before .before .before .before .before .if2 .left in
+    session-last (a .slot) (a .session) running some (c .before .before .before .if3 .left) (c .before .if4 .left)
 
 pub session-possible-spec : {M : Type 1} → statement M
 session-possible-spec = tie.close (tie.spec returns returns-2 returns-3 returns-4 returns-5)

@@ -1,21 +1,21 @@
 -- `slot::start` meets its contract: the slot is blank first, and the copy fills its start.
 -- Assumes nothing.
-use mathlib.Core.Path.{ap, ap₂, _∙_}
+use mathlib.Core.Path.{sym, ap, _∙_}
 use mathlib.Core.List.{List}
 use Prim.Native.Nat.{ℕ, _+_, _≤_}
 use native.Mathlib.Omega.{arith}
 use lib.ListN.{length, length-take, length-drop}
 use Rattle.laws.specs.Bytes.{pasted}
 use Rattle.laws.proofs.Lists.{copied-part}
-use Rattle.slot.specs.Act.{done}
-use Rattle.slot.specs.State.{stateOf}
+use Rattle.slot.specs.Session.{stateOf}
+use Rattle.slot.specs.Act.{blank, opened, done}
 use Rattle.slot.proofs.Memory.{blank-room}
 use borrow.Author.Needs.{needs}
 use Rattle.slot.proofs.start.Statement.{statement}
 use Rattle.slot.proofs.start.Tie as tie
 
 -- after the slot was cleared: the memory still holds it
-room : (c : tie.After-clear) → c .before .before .before .before .args .slot .start + c .before .before .before .before .args .slot .size ≤ length (c .clear .last .1 .0)
+room : (c : tie.After-clear) → (let slot = c .before .before .before .before .args .slot in slot .start + slot .size ≤ length (c .clear .last .1 .0))
 room c =
     let a = c .before .before .before .before .args in
     blank-room (a .slot) (a .memory .now) (c .clear .last .1 .0) (c .before .before .before .before .pre .0) (c .clear .ensures)
@@ -35,22 +35,20 @@ part-copy-end c = search needs
 copy-requires : tie.Need-copy-requires
 copy-requires c κs = simp (length-take, length-drop) (omega (arith, room (c .before .before .before)))
 
-session-of-requires : tie.Need-session-of-requires
-session-of-requires c κs = search needs
-
 same-length : tie.Need-same-length
 same-length c = search needs
 
 returns : tie.Need-returns
 unfolding done
 returns c =
-    let a = c .before .before .before .before .before .before .before .before .before .before .before .args in
-    let cleared = c .before .before .before .before .before .before .before .clear in
-    let copied = c .before .before .before .copy in
-    λ s. ap₂ stateOf
-    (copied-part (cleared .last .1 .0) (a .slot .start) (a .«data» .now) (copied .last .1 .0) (copied .ensures .1)
-    ∙ ap (λ (m : List ℕ). pasted m (a .slot .start) (a .«data» .now)) (cleared .ensures))
-    (c .session-of .ensures)
+    let a = c .before .before .before .before .before .before .before .before .before .before .args in
+    let x = a .«data» .now in
+    let cleared = c .before .before .before .before .before .before .clear in
+    let copied = c .before .before .copy in
+    let memory = copied-part (cleared .last .1 .0) (a .slot .start) x (copied .last .1 .0) (copied .ensures .1) in
+    λ st tag same.
+    ap (λ (m : List ℕ). stateOf m tag (opened (a .len) (length x) (a .tagged)))
+    (memory ∙ ap (λ (m : List ℕ). pasted m (a .slot .start) x) (cleared .ensures ∙ ap (blank (a .slot)) (sym same)))
 
 pub start-spec : {M : Type 1} → statement M
 start-spec =
@@ -61,6 +59,5 @@ start-spec =
     part-copy-start
     part-copy-end
     copy-requires
-    session-of-requires
     same-length
     returns)

@@ -5,28 +5,24 @@ use native.Mathlib.Omega.{arith}
 use lib.Dec.{lit<}
 use Rattle.cbor.specs.Write.{unsigned, textOf, mapOf}
 use Rattle.map.specs.Keys.{nameRc}
-use Rattle.smp.specs.Reply.{replyMap}
 use Rattle.smp.proofs.Writing.{put-then, room-first, room-rest}
 use borrow.Author.Needs.{needs}
 use Rattle.smp.proofs.put_rc.Statement.{statement}
 use Rattle.smp.proofs.put_rc.Tie as tie
 
 put-head-requires : tie.Need-put-head-requires
-unfolding replyMap
 put-head-requires c κs = (lit< tt, room-first 8 (mapOf 1) (textOf nameRc ++ unsigned (c .before .before .args .n)) (c .before .before .pre))
 
 slice-aggregate-put-number : tie.Need-slice-aggregate-put-number
 slice-aggregate-put-number c = search needs
 
 put-number-requires : tie.Need-put-number-requires
-unfolding replyMap
 put-number-requires c κs = omega (arith, room-rest 8 (mapOf 1) (textOf nameRc ++ unsigned (c .before .before .before .before .before .before .before .args .n)) (c .before .before .before .before .put-head .ensures .place) (c .before .before .before .before .before .before .before .pre))
 
 same-length : tie.Need-same-length
 same-length c = search needs
 
 returns : tie.Need-returns
-unfolding replyMap
 returns c = put-then (room-first 8 (mapOf 1) (textOf nameRc ++ unsigned (c .before .before .before .before .before .before .before .before .before .before .args .n)) (c .before .before .before .before .before .before .before .before .before .before .pre)) (c .before .before .before .before .before .before .before .put-head .ensures) (c .before .before .put-number .ensures)
 
 pub put-rc-spec : {M : Type 1} → statement M

@@ -1,5 +1,7 @@
--- `smp::request_of` meets its contract: each command has its own reader.
+-- `smp::request_of` meets its contract: each command has its own reading.
 -- Assumes nothing.
+use mathlib.Core.Path.{sym, ap, _∙_}
+use Rattle.smp.specs.declared.Command.{Command}
 use Rattle.smp.specs.Request.{requestOf}
 use borrow.Author.Needs.{needs}
 use Rattle.smp.proofs.request_of.Statement.{statement}
@@ -33,24 +35,30 @@ enum-told-5 : tie.Need-enum-told-5
 enum-told-5 c = search needs
 
 returns : tie.Need-returns
-unfolding requestOf
-returns c = simp (c .before .enum-told .given .1, ← c .echo-in .ensures)
+returns c =
+    let a = c .before .before .before .before .args in
+    c .echo-in .ensures ∙ ap (λ (k : Command). requestOf k (a .s .now)) (sym (c .before .enum-told .given .1))
 
 returns-2 : tie.Need-returns-2
-unfolding requestOf
-returns-2 c = simp (c .before .enum-told2 .given .1, ← c .reset-in .ensures)
+returns-2 c =
+    let a = c .before .before .before .before .args in
+    c .reset-in .ensures ∙ ap (λ (k : Command). requestOf k (a .s .now)) (sym (c .before .enum-told2 .given .1))
 
 returns-3 : tie.Need-returns-3
-unfolding requestOf
-returns-3 c = simp (c .before .enum-told3 .given .1, ← c .upload-in .ensures)
+returns-3 c =
+    let a = c .before .before .before .before .args in
+    c .upload-in .ensures ∙ ap (λ (k : Command). requestOf k (a .s .now)) (sym (c .before .enum-told3 .given .1))
 
 returns-4 : tie.Need-returns-4
-unfolding requestOf
-returns-4 c = simp (c .before .enum-told4 .given .1, ← c .erase-in .ensures)
+returns-4 c =
+    let a = c .before .before .before .before .args in
+    c .erase-in .ensures ∙ ap (λ (k : Command). requestOf k (a .s .now)) (sym (c .before .enum-told4 .given .1))
 
 returns-5 : tie.Need-returns-5
 unfolding requestOf
-returns-5 c = simp (c .enum-told5 .given .1)
+returns-5 c =
+    let a = c .before .before .before .args in
+    ap (λ (k : Command). requestOf k (a .s .now)) (sym (c .enum-told5 .given .1))
 
 pub request-of-spec : {M : Type 1} → statement M
 request-of-spec =

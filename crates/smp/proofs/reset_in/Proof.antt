@@ -1,6 +1,12 @@
 -- `smp::reset_in` meets its contract: any map will do.
 -- Assumes nothing.
-use Rattle.smp.specs.Request.{resetIn, requestOf}
+use mathlib.Core.Path.{_≡_, sym, ap, _∙_}
+use mathlib.Core.List.{List}
+use Prim.Native.Nat.{ℕ}
+use borrow.Author.Tests.{not-true, not-false}
+use Rattle.smp.specs.declared.Request.{Request}
+use Rattle.map.proofs.Ways.{read-bad, read-map}
+use Rattle.smp.specs.Request.{mapped, requestOf}
 use borrow.Author.Needs.{needs}
 use Rattle.smp.proofs.reset_in.Statement.{statement}
 use Rattle.smp.proofs.reset_in.Tie as tie
@@ -8,19 +14,13 @@ use Rattle.smp.proofs.reset_in.Tie as tie
 map-from-requires : tie.Need-map-from-requires
 map-from-requires c κs = search needs
 
-enum-told : tie.Need-enum-told
-enum-told c = search needs
-
-enum-told-2 : tie.Need-enum-told-2
-enum-told-2 c = search needs
-
 returns : tie.Need-returns
-unfolding resetIn requestOf
-returns c = simp (← c .before .before .map-from .ensures, c .enum-told2 .given .1)
+unfolding requestOf mapped
+returns c = sym (ap (mapped (λ (f : List ℕ). Request.Reset)) (read-bad (c .before .map-from .ensures) (not-true _ (c .if1 .taken))))
 
 returns-2 : tie.Need-returns-2
-unfolding resetIn requestOf
-returns-2 c = simp (← c .before .before .map-from .ensures, c .enum-told .given .1)
+unfolding requestOf mapped
+returns-2 c = sym (ap (mapped (λ (f : List ℕ). Request.Reset)) (read-map (c .before .map-from .ensures) (not-false _ (c .if1 .left))))
 
 pub reset-in-spec : {M : Type 1} → statement M
-reset-in-spec = tie.close (tie.spec map-from-requires enum-told enum-told-2 returns returns-2)
+reset-in-spec = tie.close (tie.spec map-from-requires returns returns-2)

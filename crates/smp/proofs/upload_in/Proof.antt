@@ -1,6 +1,11 @@
--- `smp::upload_in` meets its contract: a malformed map has an early return, and the fields go on.
+-- `smp::upload_in` meets its contract: the map is read, and then its keys.
 -- Assumes nothing.
-use Rattle.smp.specs.Request.{uploadIn, requestOf}
+use mathlib.Core.Path.{_≡_, sym, ap, _∙_}
+use mathlib.Core.List.{List}
+use Prim.Native.Nat.{ℕ}
+use borrow.Author.Tests.{not-true, not-false}
+use Rattle.map.proofs.Ways.{read-bad, read-map}
+use Rattle.smp.specs.Request.{mapped, uploadOf, requestOf}
 use borrow.Author.Needs.{needs}
 use Rattle.smp.proofs.upload_in.Statement.{statement}
 use Rattle.smp.proofs.upload_in.Tie as tie
@@ -8,24 +13,16 @@ use Rattle.smp.proofs.upload_in.Tie as tie
 map-from-requires : tie.Need-map-from-requires
 map-from-requires c κs = search needs
 
-enum-known-walked : tie.Need-enum-known-walked
-enum-known-walked c = search needs
-
-enum-told : tie.Need-enum-told
-enum-told c = search needs
-
 returns : tie.Need-returns
-unfolding uploadIn requestOf
-returns c = simp (← c .before .before .map-from .ensures, c .enum-told .given .1)
+unfolding requestOf mapped
+returns c = sym (ap (mapped uploadOf) (read-bad (c .before .map-from .ensures) (not-true _ (c .if1 .taken))))
 
 upload-of-requires : tie.Need-upload-of-requires
 upload-of-requires c κs = search needs
 
 returns-2 : tie.Need-returns-2
-unfolding uploadIn requestOf
-returns-2 c = simp (← c .before .before .before .before .map-from .ensures, c .before .before .walked .given .1, ← c .upload-of .ensures)
+unfolding requestOf mapped
+returns-2 c = c .upload-of .ensures ∙ sym (ap (mapped uploadOf) (read-map (c .before .before .before .map-from .ensures) (not-false _ (c .before .before .if1 .left))))
 
 pub upload-in-spec : {M : Type 1} → statement M
-upload-in-spec =
-    tie.close
-    (tie.spec map-from-requires enum-known-walked enum-told returns upload-of-requires returns-2)
+upload-in-spec = tie.close (tie.spec map-from-requires returns upload-of-requires returns-2)

@@ -3,6 +3,7 @@
 use mathlib.Core.Path.{sym, _∙_}
 use borrow.Author.Tests.{not-true, not-false, ltb-false}
 use lib.Dec.{lit<}
+use Rattle.smp.specs.Reply.{replyMap}
 use Rattle.smp.proofs.Writing.{rc-room, written-whole, written-seven}
 use borrow.Author.Needs.{needs}
 use Rattle.smp.proofs.write_reply.Statement.{statement}
@@ -12,7 +13,8 @@ fits-in-requires : tie.Need-fits-in-requires
 fits-in-requires c κs = search needs
 
 put-reply-requires : tie.Need-put-reply-requires
-put-reply-requires c κs = (c .before .before .before .before .before .pre .1 .0, (tt, rc-room _ _ (lit< tt) (c .before .before .before .before .before .pre .0)))
+unfolding replyMap
+put-reply-requires c κs = (c .before .before .before .before .before .pre .1 .0, (tt, rc-room _ (lit< tt) (c .before .before .before .before .before .pre .0)))
 
 same-length : tie.Need-same-length
 same-length c = search needs
