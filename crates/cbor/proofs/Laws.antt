@@ -1,21 +1,18 @@
 -- Heads and items: the definitions at each way of their tests, what is written is read back, and the bounds of what is read.
 -- Assumes nothing.
-use Prim.{Unit}
 use mathlib.Core.Path.{_≡_, refl, sym, ap, ap₂, _∙_}
 use mathlib.Core.Bool.{Bool, true, false, not}
 use mathlib.Core.List.{List, [], _∷_, _++_, append-assoc}
 use Prim.Native.Nat.{ℕ, suc, _+_, _-_, _*_, _/_, _%_, _^_, _≤_, _<_}
-use native.Mathlib.Nat.{pow-le-pow-right}
 use native.Mathlib.Decide.{decLt}
 use native.Mathlib.Omega.{arith}
 use lib.Dec.{ltb, eqb, lit<}
-use lib.ListN.{length, getD, take, drop, length-append, length-take}
+use lib.ListN.{length, getD, take, drop, length-append}
 use lib.Seq.{getD-append-seam, take-append-seam, drop-at}
 use borrow.Author.Tests.{le-ltb, lt-ltb, eq-eqb, ne-eqb, ltb-true, ltb-false, not-false}
 use Rattle.laws.specs.Choice.{pick}
 use Rattle.laws.specs.Bytes.{Bytes}
 use Rattle.laws.proofs.Choice.{pick-yes, pick-no, pick-case}
-use Rattle.laws.proofs.Lists.{bytes-take, bytes-drop}
 use Rattle.cbor.specs.declared.Value.{Value}
 use Rattle.cbor.specs.declared.Value.the-variants.{Unsigned, Negative, Flag, Null}
 use Rattle.cbor.specs.declared.Head.{Head}
@@ -23,7 +20,7 @@ use Rattle.cbor.specs.declared.Item.{Item}
 use Rattle.cbor.specs.Read.{beAfter, widthOf, headAfter, headAt, stringFrom, valueAfter, itemAt}
 use Rattle.cbor.specs.Write.{beBytes, headOf, bytesOf, textOf}
 use Rattle.cbor.specs.Within.{Inside, HeadWithin, ItemWithin}
-use Rattle.cbor.proofs.Numbers.{bytes-length, number-back, read-bound, eight-bytes}
+use Rattle.cbor.proofs.Numbers.{bytes-length, number-back}
 
 -- an initial byte of 24 and k more says a width of 2 to the k
 pub width-is : (info k : ℕ) → info ≡ 24 + k → widthOf info ≡ 2 ^ k
@@ -32,11 +29,6 @@ width-is info k h = ap (λ (x : ℕ). 2 ^ x) (drop-24 info k h)
   where
     drop-24 : (info k : ℕ) → info ≡ 24 + k → info - 24 ≡ k
     drop-24 info k h = omega arith
-
--- no width is above eight
-pub width-most : (info : ℕ) → info ≤ 27 → widthOf info ≤ 8
-unfolding widthOf
-width-most info h = pow-le-pow-right (lit< tt) {i = info - 24} {j = 3} (omega arith)
 
 -- past the end there is no head
 pub head-past : (s : List ℕ) (at : ℕ) → length s ≤ at → headAt s at ≡ Head.Malformed
@@ -66,7 +58,8 @@ unfolding headAfter
 head-cut s b at h k l = simp (le-ltb _ _ h, le-ltb _ _ k, lt-ltb _ _ l, pick-yes, pick-no)
 
 -- a head whose argument is there
-pub head-whole : (s : List ℕ) (b at : ℕ) → 24 ≤ b % 32 → b % 32 ≤ 27 → widthOf (b % 32) ≤ length s - at → headAfter s b at ≡ Head.Is (b / 32) (beAfter 0 (take (widthOf (b % 32)) (drop at s))) (at + widthOf (b % 32))
+pub head-whole : (s : List ℕ) (b at : ℕ) → 24 ≤ b % 32 → b % 32 ≤ 27 → widthOf (b % 32) ≤ length s - at → headAfter s b at
+    ≡ Head.Is (b / 32) (beAfter 0 (take (widthOf (b % 32)) (drop at s))) (at + widthOf (b % 32))
 unfolding headAfter
 head-whole s b at h k l = simp (le-ltb _ _ h, le-ltb _ _ k, le-ltb _ _ l, pick-no)
 
@@ -101,7 +94,8 @@ unfolding valueAfter pick
 value-text s n at = refl
 
 -- any other major type is malformed
-pub value-other : (s : List ℕ) (major n at : ℕ) → (major ≡ 0 → ⊥) → (major ≡ 1 → ⊥) → (major ≡ 2 → ⊥) → (major ≡ 3 → ⊥) → valueAfter s (Head.Is major n at) ≡ Item.Malformed
+pub value-other : (s : List ℕ) (major n at : ℕ) → (major ≡ 0 → ⊥) → (major ≡ 1 → ⊥) → (major ≡ 2 → ⊥) → (major ≡ 3 → ⊥)
+    → valueAfter s (Head.Is major n at) ≡ Item.Malformed
 unfolding valueAfter
 value-other s major n at a b c d = simp (ne-eqb _ _ a, ne-eqb _ _ b, ne-eqb _ _ c, ne-eqb _ _ d, pick-no)
 
@@ -136,7 +130,8 @@ item-null s at h e =
     simp (lt-ltb _ _ h, ne-eqb _ _ a, ne-eqb _ _ b, eq-eqb _ _ e, pick-yes, pick-no)
 
 -- any other item goes by its head
-pub item-head : (s : List ℕ) (at : ℕ) → at < length s → (getD s at 0 ≡ 0xF4 → ⊥) → (getD s at 0 ≡ 0xF5 → ⊥) → (getD s at 0 ≡ 0xF6 → ⊥) → itemAt s at ≡ valueAfter s (headAt s at)
+pub item-head : (s : List ℕ) (at : ℕ) → at < length s → (getD s at 0 ≡ 0xF4 → ⊥) → (getD s at 0 ≡ 0xF5 → ⊥) → (getD s at 0 ≡ 0xF6 → ⊥)
+    → itemAt s at ≡ valueAfter s (headAt s at)
 unfolding itemAt
 item-head s at h a b c = simp (lt-ltb _ _ h, ne-eqb _ _ a, ne-eqb _ _ b, ne-eqb _ _ c, pick-no)
 
@@ -153,7 +148,9 @@ pub head-form : (m n : ℕ) → headOf m n ≡ (m * 32 + infoOf n) ∷ beBytes (
 unfolding headOf infoOf sizeOf pick beBytes
 head-form m n = ways (ltb n 24) (ltb n 256) (ltb n 65536) (ltb n 4294967296) m n
   where
-    ways : (t u v w : Bool) (m n : ℕ) → pick t ((m * 32 + n) ∷ []) (pick u ((m * 32 + 24) ∷ beBytes 1 n) (pick v ((m * 32 + 25) ∷ beBytes 2 n) (pick w ((m * 32 + 26) ∷ beBytes 4 n) ((m * 32 + 27) ∷ beBytes 8 n)))) ≡ (m * 32 + pick t n (pick u 24 (pick v 25 (pick w 26 27)))) ∷ beBytes (pick t 0 (pick u 1 (pick v 2 (pick w 4 8)))) n
+    ways : (t u v w : Bool) (m n : ℕ) → pick t ((m * 32 + n) ∷ []) (pick u ((m * 32 + 24) ∷ beBytes 1 n)
+        (pick v ((m * 32 + 25) ∷ beBytes 2 n) (pick w ((m * 32 + 26) ∷ beBytes 4 n) ((m * 32 + 27) ∷ beBytes 8 n))))
+        ≡ (m * 32 + pick t n (pick u 24 (pick v 25 (pick w 26 27)))) ∷ beBytes (pick t 0 (pick u 1 (pick v 2 (pick w 4 8)))) n
     ways true u v w m n = refl
     ways false true v w m n = refl
     ways false false true w m n = refl
@@ -190,8 +187,11 @@ pub form-four : (n : ℕ) → 65536 ≤ n → n < 4294967296 → (infoOf n ≡ 2
 unfolding infoOf sizeOf
 form-four n h k =
     let a : 24 ≤ n = omega arith in
-    let b : 256 ≤ n = omega arith in
-    (simp (le-ltb _ _ a, le-ltb _ _ b, le-ltb _ _ h, lt-ltb _ _ k, pick-yes, pick-no), simp (le-ltb _ _ a, le-ltb _ _ b, le-ltb _ _ h, lt-ltb _ _ k, pick-yes, pick-no))
+    let b : 256 ≤ n = omega arith in (
+      simp (le-ltb _ _ a, le-ltb _ _ b, le-ltb _ _ h, lt-ltb _ _ k, pick-yes, pick-no),
+      simp
+          (le-ltb _ _ a, le-ltb _ _ b, le-ltb _ _ h, lt-ltb _ _ k, pick-yes, pick-no),
+    )
 
 -- an argument in eight bytes
 pub form-eight : (n : ℕ) → 4294967296 ≤ n → (infoOf n ≡ 27) × (sizeOf n ≡ 8)
@@ -259,7 +259,8 @@ tiny-back s m n at h =
     head-small s (m * 32 + n) at (omega arith) ∙ ap₂ (λ (x y : ℕ). Head.Is x y at) high low
 
 -- an argument in the bytes x after the initial byte is read back
-wide-back : (front x post : List ℕ) (m k : ℕ) → k < 4 → length x ≡ 2 ^ k → headAfter (front ++ (x ++ post)) (m * 32 + (24 + k)) (length front) ≡ Head.Is m (beAfter 0 x) (length front + length x)
+wide-back : (front x post : List ℕ) (m k : ℕ) → k < 4 → length x ≡ 2 ^ k → headAfter (front ++ (x ++ post)) (m * 32 + (24 + k)) (length front)
+    ≡ Head.Is m (beAfter 0 x) (length front + length x)
 wide-back front x post m k h e =
     let b : ℕ = m * 32 + (24 + k) in
     let s : List ℕ = front ++ (x ++ post) in
@@ -273,7 +274,8 @@ wide-back front x post m k h e =
     ∙ ap (λ (l : List ℕ). Head.Is m (beAfter 0 l) (length front + length x)) taken
 
 -- an initial byte and the bytes x after it are read back
-wide-head : (pre x post : List ℕ) (m k : ℕ) → k < 4 → length x ≡ 2 ^ k → headAt (pre ++ (((m * 32 + (24 + k)) ∷ x) ++ post)) (length pre) ≡ Head.Is m (beAfter 0 x) (length pre + suc (length x))
+wide-head : (pre x post : List ℕ) (m k : ℕ) → k < 4 → length x ≡ 2 ^ k → headAt (pre ++ (((m * 32 + (24 + k)) ∷ x) ++ post)) (length pre)
+    ≡ Head.Is m (beAfter 0 x) (length pre + suc (length x))
 wide-head pre x post m k h e =
     let b : ℕ = m * 32 + (24 + k) in
     let front : List ℕ = pre ++ (b ∷ []) in
@@ -295,11 +297,13 @@ by-form pre post m n (wide k a fits e) =
     ∙ ap (λ (x : ℕ). Head.Is m x (length pre + suc (length (beBytes (2 ^ k) n)))) (number-back (2 ^ k) n fits))
 
 -- what is written is read back: the shortest head
-pub head-back : (pre post : List ℕ) (m n : ℕ) → m < 8 → n < 2 ^ 64 → headAt (pre ++ (headOf m n ++ post)) (length pre) ≡ Head.Is m n (length pre + length (headOf m n))
+pub head-back : (pre post : List ℕ) (m n : ℕ) → m < 8 → n < 2 ^ 64 → headAt (pre ++ (headOf m n ++ post)) (length pre)
+    ≡ Head.Is m n (length pre + length (headOf m n))
 head-back pre post m n h k = by-form pre post m n (form n k)
 
 -- an item whose head was written with a major type below 4 goes by that head
-item-by-head : (pre post : List ℕ) (m n : ℕ) → m < 4 → n < 2 ^ 64 → itemAt (pre ++ (headOf m n ++ post)) (length pre) ≡ valueAfter (pre ++ (headOf m n ++ post)) (Head.Is m n (length pre + length (headOf m n)))
+item-by-head : (pre post : List ℕ) (m n : ℕ) → m < 4 → n < 2 ^ 64 → itemAt (pre ++ (headOf m n ++ post)) (length pre)
+    ≡ valueAfter (pre ++ (headOf m n ++ post)) (Head.Is m n (length pre + length (headOf m n)))
 item-by-head pre post m n h k =
     let s : List ℕ = pre ++ (headOf m n ++ post) in
     let most : infoOf n ≤ 27 = info-most n (form n k) in
@@ -309,11 +313,15 @@ item-by-head pre post m n h k =
     ∙ ap (λ (x : Head). valueAfter s x) (head-back pre post m n (omega arith) k)
 
 -- what is written is read back: an unsigned number
-pub unsigned-back : (pre post : List ℕ) (n : ℕ) → n < 2 ^ 64 → itemAt (pre ++ (headOf 0 n ++ post)) (length pre) ≡ Item.Is (Unsigned n) (length pre + length (headOf 0 n))
+pub unsigned-back : (pre post : List ℕ) (n : ℕ) → n < 2 ^ 64 → itemAt (pre ++ (headOf 0 n ++ post)) (length pre)
+    ≡ Item.Is (Unsigned n) (length pre + length (headOf 0 n))
 unsigned-back pre post n h = item-by-head pre post 0 n (lit< tt) h ∙ value-unsigned (pre ++ (headOf 0 n ++ post)) n (length pre + length (headOf 0 n))
 
 -- a string under its head is read back as the value that the head says
-string-back : (pre x post : List ℕ) (m : ℕ) (v : Value) → m < 4 → length x < 2 ^ 64 → valueAfter (pre ++ (headOf m (length x) ++ (x ++ post))) (Head.Is m (length x) (length pre + length (headOf m (length x)))) ≡ stringFrom (pre ++ (headOf m (length x) ++ (x ++ post))) v (length x) (length pre + length (headOf m (length x))) → itemAt (pre ++ ((headOf m (length x) ++ x) ++ post)) (length pre) ≡ Item.Is v (length pre + length (headOf m (length x) ++ x))
+string-back : (pre x post : List ℕ) (m : ℕ) (v : Value) → m < 4 → length x < 2 ^ 64 → valueAfter (pre ++ (headOf m (length x) ++ (x ++ post)))
+    (Head.Is m (length x) (length pre + length (headOf m (length x)))) ≡ stringFrom (pre ++ (headOf m (length x) ++ (x ++ post))) v (length x)
+    (length pre + length (headOf m (length x))) → itemAt (pre ++ ((headOf m (length x) ++ x) ++ post)) (length pre)
+    ≡ Item.Is v (length pre + length (headOf m (length x) ++ x))
 string-back pre x post m v h k e =
     let head : List ℕ = headOf m (length x) in
     let s : List ℕ = pre ++ (head ++ (x ++ post)) in
@@ -326,12 +334,18 @@ string-back pre x post m v h k e =
     ∙ ap (λ (n : ℕ). Item.Is v n) end
 
 -- what is written is read back: a string of bytes
-pub bytes-back : (pre x post : List ℕ) → length x < 2 ^ 64 → itemAt (pre ++ (bytesOf x ++ post)) (length pre) ≡ Item.Is (Value.Bytes (length pre + length (headOf 2 (length x))) (length x)) (length pre + length (bytesOf x))
-bytes-back pre x post h = string-back pre x post 2 (Value.Bytes (length pre + length (headOf 2 (length x))) (length x)) (lit< tt) h (value-bytes (pre ++ (headOf 2 (length x) ++ (x ++ post))) (length x) (length pre + length (headOf 2 (length x))))
+pub bytes-back : (pre x post : List ℕ) → length x < 2 ^ 64 → itemAt (pre ++ (bytesOf x ++ post)) (length pre)
+    ≡ Item.Is (Value.Bytes (length pre + length (headOf 2 (length x))) (length x)) (length pre + length (bytesOf x))
+bytes-back pre x post h =
+    string-back pre x post 2 (Value.Bytes (length pre + length (headOf 2 (length x))) (length x)) (lit< tt) h
+    (value-bytes (pre ++ (headOf 2 (length x) ++ (x ++ post))) (length x) (length pre + length (headOf 2 (length x))))
 
 -- what is written is read back: a text
-pub text-back : (pre x post : List ℕ) → length x < 2 ^ 64 → itemAt (pre ++ (textOf x ++ post)) (length pre) ≡ Item.Is (Value.Text (length pre + length (headOf 3 (length x))) (length x)) (length pre + length (textOf x))
-text-back pre x post h = string-back pre x post 3 (Value.Text (length pre + length (headOf 3 (length x))) (length x)) (lit< tt) h (value-text (pre ++ (headOf 3 (length x) ++ (x ++ post))) (length x) (length pre + length (headOf 3 (length x))))
+pub text-back : (pre x post : List ℕ) → length x < 2 ^ 64 → itemAt (pre ++ (textOf x ++ post)) (length pre)
+    ≡ Item.Is (Value.Text (length pre + length (headOf 3 (length x))) (length x)) (length pre + length (textOf x))
+text-back pre x post h =
+    string-back pre x post 3 (Value.Text (length pre + length (headOf 3 (length x))) (length x)) (lit< tt) h
+    (value-text (pre ++ (headOf 3 (length x) ++ (x ++ post))) (length x) (length pre + length (headOf 3 (length x))))
 
 -- a head at a place ends after it and within the bytes
 head-within : (s : List ℕ) (at : ℕ) → HeadWithin s at (headAt s at)
@@ -353,42 +367,9 @@ head-within s at =
 pub head-place : (s : List ℕ) (at m n next : ℕ) → headAt s at ≡ Head.Is m n next → (at < next) × (next ≤ length s)
 head-place s at m n next e = rw e at (head-within s at)
 
--- an argument in at most eight bytes is below 2^64
-argument-bound : (s : List ℕ) (at w : ℕ) → w ≤ 8 → Bytes s → beAfter 0 (take w (drop at s)) < 2 ^ 64
-argument-bound s at w h small =
-    let x : List ℕ = take w (drop at s) in
-    let size : length x ≤ w = rw length-take (omega arith) in
-    let bound : beAfter 0 x < (0 + 1) * 256 ^ length x = read-bound 0 x (bytes-take w (drop at s) (bytes-drop at s small)) in
-    eight-bytes (beAfter 0 x) (length x) (omega arith) (omega arith)
-
--- a major type below 8 and an argument below 2^64
-HeadSmall : Head → Type 0
-HeadSmall Head.Malformed = Unit {0}
-HeadSmall (Head.Is major n next) = (major < 8) × (n < 2 ^ 64)
-
--- a head of bytes has such parts
-head-bounds : (s : List ℕ) (at : ℕ) → Bytes s → HeadSmall (headAt s at)
-unfolding headAt headAfter HeadSmall
-head-bounds s at small =
-    let b : ℕ = getD s at 0 in
-    let byte : b < 256 = small at in
-    pick-case HeadSmall (ltb at (length s)) _ _
-    (λ h. pick-case HeadSmall (ltb (b % 32) 24) _ _
-    (λ i. (omega arith, omega arith))
-    (λ i. pick-case HeadSmall (ltb 27 (b % 32)) _ _
-    (λ j. tt)
-    (λ j. pick-case HeadSmall (ltb (length s - (at + 1)) (widthOf (b % 32))) _ _
-    (λ k. tt)
-    (λ k. (omega arith, argument-bound s (at + 1) (widthOf (b % 32)) (width-most (b % 32) (ltb-false 27 (b % 32) j)) small)))))
-    (λ h. tt)
-
--- so has a head that was read
-pub head-small-parts : (s : List ℕ) (at m n next : ℕ) → Bytes s → headAt s at ≡ Head.Is m n next → (m < 8) × (n < 2 ^ 64)
-unfolding HeadSmall
-head-small-parts s at m n next small e = rw e at (head-bounds s at small)
-
 -- a string that was read lies within the bytes
-string-within : (s : List ℕ) (from at n : ℕ) (v : Value) → from < at → at ≤ length s → (n ≤ length s - at → Inside s v) → ItemWithin s from (stringFrom s v n at)
+string-within : (s : List ℕ) (from at n : ℕ) (v : Value) → from < at → at ≤ length s → (n ≤ length s - at → Inside s v)
+    → ItemWithin s from (stringFrom s v n at)
 unfolding stringFrom
 string-within s from at n v h k inside =
     pick-case (λ i. ItemWithin s from i) (ltb (length s - at) n) _ _
@@ -428,7 +409,3 @@ item-within s at =
     (λ j. pick-case P (eqb b 0xF6) _ _
     (λ k. (omega arith, omega (arith, ltb-true at (length s) (not-false (ltb at (length s)) h)), tt))
     (λ k. value-within s at (headAt s at) (head-within s at)))))
-
--- so does an item that was read
-pub item-place : (s : List ℕ) (at : ℕ) (v : Value) (next : ℕ) → itemAt s at ≡ Item.Is v next → (at < next) × (next ≤ length s) × Inside s v
-item-place s at v next e = rw e at (item-within s at)

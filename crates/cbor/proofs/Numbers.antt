@@ -2,16 +2,33 @@
 -- the bound of what is read.
 -- Assumes nothing.
 use mathlib.Core.Path.{_≡_, refl, sym, ap, ap₂, _∙_}
-use mathlib.Core.List.{List, [], _∷_, _++_}
+use mathlib.Core.List.{List, _∷_, _++_}
 use Prim.Native.Nat.{ℕ, zero, suc, _+_, _-_, _*_, _/_, _%_, _^_, _≤_, _<_}
-use native.Mathlib.Nat.{pow-suc, pow-le-pow-right, one-le-pow, add-mul, mul-assoc, mul-comm, zero-mul, zero-add, div-add-mod', mod-lt, mod-eq-of-lt, mul-add-mod-self-right, div-div-eq-div-mul, mul-le-mul-right, mod-one, div-one}
+use native.Mathlib.Nat.{
+  pow-suc,
+  pow-le-pow-right,
+  one-le-pow,
+  add-mul,
+  mul-assoc,
+  mul-comm,
+  zero-mul,
+  zero-add,
+  div-add-mod',
+  mod-lt,
+  mod-eq-of-lt,
+  mul-add-mod-self-right,
+  div-div-eq-div-mul,
+  mul-le-mul-right,
+  mod-one,
+  div-one,
+}
 use native.Mathlib.Numerals.{add-one}
 use native.Mathlib.Omega.{arith}
 use lib.ListN.{length, getD, take, drop, set, length-take, length-append}
 use lib.Seq.{drop-cons, set-split, take-append-le, take-take, drop-at}
 use lib.Dec.{lit<}
-use Rattle.laws.specs.Bytes.{Bytes, pasted}
-use Rattle.laws.proofs.Lists.{bytes-head, bytes-tail, pasted-none}
+use Rattle.laws.specs.Bytes.{pasted}
+use Rattle.laws.proofs.Lists.{pasted-none}
 use Rattle.cbor.specs.Read.{beAfter}
 use Rattle.cbor.specs.Write.{beBytes}
 
@@ -76,25 +93,13 @@ unfolding beAfter
 read-none n s w h = rw h
 
 -- one byte is read
-pub read-turn : (n i w at : ℕ) (s : List ℕ) → i < w → at + w ≤ length s → beAfter (n * 256 + getD s (at + i) 0) (take (w - (i + 1)) (drop (at + (i + 1)) s)) ≡ beAfter n (take (w - i) (drop (at + i) s))
+pub read-turn : (n i w at : ℕ) (s : List ℕ) → i < w → at + w ≤ length s → beAfter (n * 256 + getD s (at + i) 0)
+    (take (w - (i + 1)) (drop (at + (i + 1)) s)) ≡ beAfter n (take (w - i) (drop (at + i) s))
 unfolding beAfter
 read-turn n i w at s h k =
     let e : w - i ≡ suc (w - (i + 1)) = omega arith in
     let next : at + (i + 1) ≡ suc (at + i) = omega arith in
     rw (e, next, drop-cons s (at + i) 0 (omega arith))
-
--- what is read out of bytes has a bound
-pub read-bound : (n : ℕ) (s : List ℕ) → Bytes s → beAfter n s < (n + 1) * 256 ^ length s
-unfolding beAfter
-read-bound n [] b = omega arith
-read-bound n (a ∷ s) b =
-    let p : ℕ = 256 ^ length s in
-    let e : 256 ^ suc (length s) ≡ p * 256 = pow-suc 256 (length s) in
-    let small : a < 256 = bytes-head a s b in
-    let rest : beAfter (n * 256 + a) s < (n * 256 + a + 1) * p = read-bound (n * 256 + a) s (bytes-tail a s b) in
-    let most : (n * 256 + a + 1) * p ≤ (n + 1) * 256 * p = mul-le-mul-right p (omega arith) in
-    let high : (n + 1) * 256 * p ≡ (n + 1) * (p * 256) = mul-assoc (n + 1) 256 p ∙ ap (λ (x : ℕ). (n + 1) * x) (mul-comm 256 p) in
-    rw e (omega arith)
 
 -- a byte stored before what was written is written with it
 pub pasted-before : (m : List ℕ) (j b : ℕ) (x : List ℕ) → j + 1 + length x ≤ length m → set (pasted m (j + 1) x) j b ≡ pasted m j (b ∷ x)
@@ -103,7 +108,8 @@ pasted-before m j b x h =
     let front : length (take (j + 1) m) ≡ j + 1 = simp length-take (omega arith) in
     let rest : List ℕ = x ++ drop (j + 1 + length x) m in
     set-split (take (j + 1) m ++ rest) j b (simp length-append (omega arith))
-    ∙ ap₂ (λ (p q : List ℕ). p ++ (b ∷ q)) (take-append-le j (take (j + 1) m) rest (omega arith) ∙ take-take j (j + 1) m (omega arith)) (drop-at (take (j + 1) m) rest (suc j) (omega arith))
+    ∙ ap₂ (λ (p q : List ℕ). p ++ (b ∷ q)) (take-append-le j (take (j + 1) m) rest (omega arith) ∙ take-take j (j + 1) m (omega arith))
+    (drop-at (take (j + 1) m) rest (suc j) (omega arith))
     ∙ ap (λ (n : ℕ). take j m ++ (b ∷ (x ++ drop n m))) (sum j x)
   where
     sum : (j : ℕ) (x : List ℕ) → j + 1 + length x ≡ j + suc (length x)
@@ -123,7 +129,8 @@ left-none w n =
     rw (e, div-one)
 
 -- one byte is written, the one before those that are
-pub write-turn : (m : List ℕ) (at i w n : ℕ) → 0 < i → i ≤ w → at + w ≤ length m → set (pasted m (at + i) (beBytes (w - i) n)) (at + (i - 1)) (n / 256 ^ (w - i) % 256) ≡ pasted m (at + (i - 1)) (beBytes (w - (i - 1)) n)
+pub write-turn : (m : List ℕ) (at i w n : ℕ) → 0 < i → i ≤ w → at + w ≤ length m → set (pasted m (at + i) (beBytes (w - i) n)) (at + (i - 1))
+    (n / 256 ^ (w - i) % 256) ≡ pasted m (at + (i - 1)) (beBytes (w - (i - 1)) n)
 unfolding beBytes
 write-turn m at i w n p h k =
     let e : w - (i - 1) ≡ suc (w - i) = omega arith in

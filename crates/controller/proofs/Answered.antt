@@ -1,7 +1,6 @@
 -- Every request is answered: what is read as a request is carried out, and its reply stands at the buffer's start.
 -- Assumes nothing.
 use mathlib.Core.Path.{_≡_, refl, ap, _∙_}
-use mathlib.Core.Bool.{true}
 use mathlib.Core.List.{List}
 use Prim.Native.Nat.{ℕ}
 use lib.ListN.{length, take, drop}
@@ -15,7 +14,7 @@ use Rattle.smp.specs.declared.Reading.{Reading}
 use Rattle.smp.specs.declared.Request.{Request}
 use Rattle.smp.specs.Packet.{headerIn}
 use Rattle.smp.specs.Request.{commandOf, requestOf, readRequest}
-use Rattle.controller.specs.Handle.{Outcome, Taking, request, taking, bytesBy, saidBy, handled}
+use Rattle.controller.specs.Handle.{Taking, request, taking, bytesBy, saidBy, handled}
 use Rattle.controller.specs.Calls.{Answered}
 use Rattle.controller.proofs.Laws.{taking-request}
 

@@ -13,7 +13,6 @@ use Rattle.laws.proofs.Choice.{pick-yes, pick-no, pick-case}
 use Rattle.slot.specs.declared.Slot.{Slot}
 use Rattle.slot.specs.declared.Session.{Session}
 use Rattle.slot.specs.Session.{State, stateOf, possible, closed, closedIn}
-use Rattle.slot.specs.Act.{Act}
 use Rattle.slot.specs.History.{Fit, History, begun, went, Held}
 use Rattle.slot.proofs.Fit.{keep-fit, erase-fit, end-fit, planned-fit}
 use Rattle.slot.proofs.History.{demand, as-unbroken}
@@ -22,7 +21,7 @@ use Rattle.smp.specs.declared.Reading.{Reading}
 use Rattle.smp.specs.Request.{readRequest}
 use Rattle.smp.proofs.Sound.{upload-inside}
 use Rattle.controller.specs.Doing.{actFor}
-use Rattle.controller.specs.Handle.{Outcome, Taking, refusal, asked, taking, actBy, handled, handle}
+use Rattle.controller.specs.Handle.{Outcome, Taking, asked, taking, actBy, handled, handle}
 use Rattle.controller.specs.Calls.{
   Call,
   after,
@@ -77,17 +76,20 @@ pub packet-unbroken : PacketUnbroken
 packet-unbroken slot first calls image h closed open-now cut = as-unbroken slot first _ _ image h closed (calls-history slot first calls) open-now cut
 
 -- a run is at its end: less than a length is left, or the packet is not whole; or one packet more follows
-pub run-end : (slot : Slot) (first : State) (run b : List ℕ) (n at : ℕ) (calls : List Call) → length run - at < 2 → callsFrom slot first run b n at calls ≡ calls
+pub run-end : (slot : Slot) (first : State) (run b : List ℕ) (n at : ℕ) (calls : List Call) → length run - at < 2
+    → callsFrom slot first run b n at calls ≡ calls
 unfolding callsFrom
 run-end slot first run b zero at calls h = refl
 run-end slot first run b (suc n) at calls h = simp (lt-ltb _ _ h, pick-yes)
 
-pub run-cut : (slot : Slot) (first : State) (run b : List ℕ) (n at : ℕ) (calls : List Call) → 2 ≤ length run - at → length run - (at + 2) < sizeAt run at → callsFrom slot first run b n at calls ≡ calls
+pub run-cut : (slot : Slot) (first : State) (run b : List ℕ) (n at : ℕ) (calls : List Call) → 2 ≤ length run - at
+    → length run - (at + 2) < sizeAt run at → callsFrom slot first run b n at calls ≡ calls
 unfolding callsFrom
 run-cut slot first run b zero at calls h l = refl
 run-cut slot first run b (suc n) at calls h l = simp (le-ltb _ _ h, lt-ltb _ _ l, pick-yes, pick-no)
 
-pub run-on : (slot : Slot) (first : State) (run b : List ℕ) (n at : ℕ) (calls : List Call) → 2 ≤ length run - at → sizeAt run at ≤ length run - (at + 2) → callsFrom slot first run b (suc n) at calls ≡ callsFrom slot first run b n (at + 2 + sizeAt run at) (callAt slot first run b at calls ∷ calls)
+pub run-on : (slot : Slot) (first : State) (run b : List ℕ) (n at : ℕ) (calls : List Call) → 2 ≤ length run - at → sizeAt run at ≤ length run -
+    (at + 2) → callsFrom slot first run b (suc n) at calls ≡ callsFrom slot first run b n (at + 2 + sizeAt run at) (callAt slot first run b at calls ∷ calls)
 unfolding callsFrom
 run-on slot first run b n at calls h l = simp (le-ltb _ _ h, le-ltb _ _ l, pick-no)
 

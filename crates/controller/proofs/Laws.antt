@@ -9,7 +9,7 @@ use lib.Dec.{ltb, eqb}
 use lib.ListN.{length}
 use borrow.Author.Tests.{lt-ltb, le-ltb, not-false}
 use Rattle.laws.specs.declared.Number.{Number}
-use Rattle.laws.specs.Choice.{pick, both}
+use Rattle.laws.specs.Choice.{both}
 use Rattle.laws.specs.Bytes.{pasted}
 use Rattle.laws.proofs.Choice.{pick-yes, pick-no, pick-case, both-true}
 use Rattle.laws.proofs.Lists.{pasted-none}
@@ -18,9 +18,9 @@ use Rattle.slot.specs.declared.Upload.{Upload}
 use Rattle.slot.specs.declared.Plan.{Plan}
 use Rattle.slot.specs.Session.{regionOk, sessionOk, State, possible}
 use Rattle.slot.specs.Plan.{above, largest, misSized, sameTag, planLater, planSized, planLength, planFirst, planOf}
-use Rattle.slot.specs.Act.{Act, done, actOf}
+use Rattle.slot.specs.Act.{done, actOf}
 use Rattle.slot.specs.History.{Fit}
-use Rattle.slot.proofs.Fit.{data-size, planned-fit}
+use Rattle.slot.proofs.Fit.{planned-fit}
 use Rattle.slot.proofs.Laws.{region-bounds, session-bounds}
 use Rattle.smp.specs.declared.Request.{Request}
 use Rattle.smp.specs.declared.Reading.{Reading}
@@ -38,7 +38,6 @@ use Rattle.controller.specs.Handle.{
   resetAsked,
   refused,
   Outcome,
-  Taking,
   refusal,
   request,
   asked,

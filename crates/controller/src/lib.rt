@@ -11,7 +11,7 @@ ghost use mathlib.Core.Path.{_≡_};
 ghost use mathlib.Core.Bool.{true};
 ghost use mathlib.Core.List.{List};
 ghost use Prim.Native.Nat.{ℕ, _+_, _-_, _≤_};
-ghost use lib.ListN.{length, take, drop};
+ghost use lib.ListN.{length};
 ghost use Rattle.laws.specs.Parts.{partOf, Within};
 ghost use Rattle.slot.specs.Session.{stateOf, possible};
 ghost use Rattle.smp.specs.Request.{readRequest};
@@ -65,7 +65,8 @@ fn do_upload(
 ) -> Done
     requires { ⌜ possible slot (stateOf (now memory) (now tag) session) ≡ true ⌝ }
     requires { ⌜ (upload .start + upload .size ≤ length (now packet)) × Within (now packet) (upload .sha) ⌝ }
-    ensures { λ r. ⌜ Carried slot (stateOf (now (memory .entry)) (now (tag .entry)) session) (now (packet .entry)) (Request.Upload upload) r (now (memory .exit)) (now (tag .exit)) ⌝ }
+    ensures { λ r. ⌜ Carried slot (stateOf (now (memory .entry)) (now (tag .entry)) session) (now (packet .entry)) (Request.Upload upload) r
+        (now (memory .exit)) (now (tag .exit)) ⌝ }
 {
     let plan = slot::plan_upload(slot, session, tag, packet, upload);
     let after = slot::carry_out(slot, session, tag, memory, packet, upload, plan);
@@ -87,7 +88,8 @@ fn carry(
 ) -> Done
     requires { ⌜ possible slot (stateOf (now memory) (now tag) session) ≡ true ⌝ }
     requires { ⌜ readRequest (now packet) ≡ Reading.Is request ⌝ }
-    ensures { λ r. ⌜ Carried slot (stateOf (now (memory .entry)) (now (tag .entry)) session) (now (packet .entry)) request r (now (memory .exit)) (now (tag .exit)) ⌝ }
+    ensures { λ r. ⌜ Carried slot (stateOf (now (memory .entry)) (now (tag .entry)) session) (now (packet .entry)) request r (now (memory .exit))
+        (now (tag .exit)) ⌝ }
 {
     match request {
         Request::Answer(why) => Done {
@@ -143,7 +145,8 @@ fn respond(
     requires { ⌜ possible slot (stateOf (now memory) (now tag) session) ≡ true ⌝ }
     requires { ⌜ 32 ≤ length (now reply) ⌝ }
     requires { ⌜ readRequest (now packet) ≡ Reading.Is request ⌝ }
-    ensures { λ r. ⌜ outcome r (now (memory .exit)) (now (tag .exit)) (now (reply .exit)) ≡ handled slot (stateOf (now (memory .entry)) (now (tag .entry)) session) (now (packet .entry)) (now (reply .entry)) (Taking.request request) ⌝ }
+    ensures { λ r. ⌜ outcome r (now (memory .exit)) (now (tag .exit)) (now (reply .exit))
+        ≡ handled slot (stateOf (now (memory .entry)) (now (tag .entry)) session) (now (packet .entry)) (now (reply .entry)) (Taking.request request) ⌝ }
 {
     let done = carry(slot, session, tag, memory, packet, request);
     let after = done.session;
@@ -172,7 +175,8 @@ pub fn handle_packet(
     packet: &[u8],
     reply: &mut [u8],
 ) -> Handled
-    ensures { λ r. ⌜ outcome r (now (memory .exit)) (now (tag .exit)) (now (reply .exit)) ≡ handle slot (stateOf (now (memory .entry)) (now (tag .entry)) session) (now (packet .entry)) (now (reply .entry)) ⌝ }
+    ensures { λ r. ⌜ outcome r (now (memory .exit)) (now (tag .exit)) (now (reply .exit))
+        ≡ handle slot (stateOf (now (memory .entry)) (now (tag .entry)) session) (now (packet .entry)) (now (reply .entry)) ⌝ }
 {
     if !slot::possible(slot, session, memory.len()) {
         return Handled {
@@ -208,8 +212,10 @@ fn handle_next(
     reply: &mut [u8],
 ) -> Session
     requires { ⌜ (at ≤ end) × (end ≤ length (now run)) ⌝ }
-    ensures { λ r. ⌜ stateOf (now (memory .exit)) (now (tag .exit)) r ≡ handle slot (stateOf (now (memory .entry)) (now (tag .entry)) session) (partOf (now (run .entry)) at (end - at)) (now (reply .entry)) .state ⌝ }
-    ensures { λ _. ⌜ now (reply .exit) ≡ handle slot (stateOf (now (memory .entry)) (now (tag .entry)) session) (partOf (now (run .entry)) at (end - at)) (now (reply .entry)) .reply ⌝ }
+    ensures { λ r. ⌜ stateOf (now (memory .exit)) (now (tag .exit)) r ≡ handle slot (stateOf (now (memory .entry)) (now (tag .entry)) session)
+        (partOf (now (run .entry)) at (end - at)) (now (reply .entry)) .state ⌝ }
+    ensures { λ _. ⌜ now (reply .exit) ≡ handle slot (stateOf (now (memory .entry)) (now (tag .entry)) session)
+        (partOf (now (run .entry)) at (end - at)) (now (reply .entry)) .reply ⌝ }
 {
     let handled = handle_packet(slot, session, tag, memory, &run[at..end], reply);
     handled.session

@@ -12,7 +12,6 @@ use lib.Seq.{drop-cons}
 use lib.Bits.{bitXor, xor-lt}
 use borrow.Author.Tests.{ltb-true}
 use Rattle.laws.specs.Bytes.{Bytes}
-use Rattle.laws.specs.Choice.{pick}
 use Rattle.laws.proofs.Choice.{pick-case}
 use Rattle.laws.proofs.Lists.{bytes-tail}
 use Rattle.crc.specs.Crc.{shifted, bits, byte, onward}

@@ -14,7 +14,7 @@ use Rattle.cbor.specs.Write.{headOf, unsigned, bytesOf, textOf, mapOf}
 use Rattle.map.specs.declared.Kind.{Kind}
 use Rattle.map.specs.declared.Key.{Key}
 use Rattle.map.specs.Keys.{nameD, nameR, nameRc, nameData, nameLen, nameOff, nameSha, keyOf, typeFor}
-use Rattle.map.specs.Fields.{indexOf, flagNumber, nothing, firstOf, secondOf, stored}
+use Rattle.map.specs.Fields.{indexOf, nothing, stored}
 use Rattle.map.specs.Walk.{mapFrom}
 use Rattle.map.proofs.Laws.{walked}
 use Rattle.smp.specs.declared.Reply.{Reply as Answered}
@@ -80,7 +80,8 @@ module _ (kind : Kind) (s pre k x : List ℕ) (parts : s ≡ pre ++ (mapOf 1 ++ 
   text-parts = last-part (pre ++ mapOf 1) (textOf k ++ textOf x) (next-part pre (mapOf 1) (textOf k ++ textOf x) parts)
 
   -- it is read as the text under that key
-  pub text-read : length pre ≡ 8 → keyOf kind k ≡ Key.Text → length k < 2 ^ 64 → length x < 2 ^ 64 → mapFrom kind s 8 ≡ some (stored Key.Text (Value.Text (textAt pre k x) (length x)) nothing)
+  pub text-read : length pre ≡ 8 → keyOf kind k ≡ Key.Text → length k < 2 ^ 64 → length x < 2 ^ 64 → mapFrom kind s 8
+      ≡ some (stored Key.Text (Value.Text (textAt pre k x) (length x)) nothing)
   unfolding indexOf typeFor
   text-read eight is small fits =
       let p : List ℕ = pre ++ mapOf 1 in
@@ -103,7 +104,8 @@ rc-read s pre n parts eight fits =
     ∙ walk-over Kind.Reply s ((pre ++ mapOf 1) ++ pair) _ whole
 
 -- a reply with the return code 0 and an offset
-pub placed-read : (s pre q : List ℕ) (n : ℕ) → s ≡ pre ++ replyMap q (Answered.Placed n) → length pre ≡ 8 → n < 2 ^ 64 → mapFrom Kind.Reply s 8 ≡ some (stored Key.Off (Unsigned n) (stored Key.Rc (Unsigned 0) nothing))
+pub placed-read : (s pre q : List ℕ) (n : ℕ) → s ≡ pre ++ replyMap q (Answered.Placed n) → length pre ≡ 8 → n < 2 ^ 64 → mapFrom Kind.Reply s 8
+    ≡ some (stored Key.Off (Unsigned n) (stored Key.Rc (Unsigned 0) nothing))
 unfolding replyMap stored indexOf typeFor
 placed-read s pre q n parts eight fits =
     let p : List ℕ = pre ++ mapOf 2 in
@@ -138,7 +140,8 @@ module _ (s pre x : List ℕ) (off : ℕ) (parts : s ≡ pre ++ laterMap x off) 
   later-one = next-part pre (mapOf 2) ((textOf nameData ++ bytesOf x) ++ (textOf nameOff ++ unsigned off)) later-all
 
   -- it is read as the data and the offset
-  pub later-read : length pre ≡ 8 → length x < 2 ^ 64 → off < 2 ^ 64 → mapFrom Kind.Upload s 8 ≡ some (stored Key.Off (Unsigned off) (withData (dataAt pre 2 x) (length x)))
+  pub later-read : length pre ≡ 8 → length x < 2 ^ 64 → off < 2 ^ 64 → mapFrom Kind.Upload s 8
+      ≡ some (stored Key.Off (Unsigned off) (withData (dataAt pre 2 x) (length x)))
   unfolding stored indexOf typeFor
   later-read eight fits small =
       let p : List ℕ = pre ++ mapOf 2 in
@@ -170,7 +173,8 @@ module _ (s p x : List ℕ) (size : ℕ) (post : List ℕ) (parts : s ≡ p ++ (
   -- the walk goes on over all three
   pub pairs-read : length x < 2 ^ 64 → size < 2 ^ 64 → (count : ℕ)
       → walked Kind.Upload s (suc (suc (suc count))) (length p) nothing
-      ≡ walked Kind.Upload s count (length (p ++ firstPairs x size)) (pairsFields (length (p ++ textOf nameData) + length (headOf 2 (length x))) (length x) size)
+      ≡ walked Kind.Upload s count (length (p ++ firstPairs x size)) (pairsFields (length (p ++ textOf nameData) + length (headOf 2 (length x)))
+      (length x) size)
   unfolding stored indexOf typeFor
   pairs-read fits small count =
       let d : List ℕ = textOf nameData ++ bytesOf x in
@@ -182,11 +186,13 @@ module _ (s p x : List ℕ) (size : ℕ) (post : List ℕ) (parts : s ≡ p ++ (
       step-bytes Kind.Upload s p nameData x (l ++ (o ++ post)) nothing Key.Data (suc (suc count)) pairs-all key-data (lit< tt) fits refl refl
       ∙ step-number Kind.Upload s (p ++ d) nameLen (o ++ post) _ Key.Len size (suc count) two key-len (lit< tt) small refl refl
       ∙ step-number Kind.Upload s ((p ++ d) ++ l) nameOff post _ Key.Off 0 count three key-off (lit< tt) (lit< tt) refl refl
-      ∙ ap (λ (y : List ℕ). walked Kind.Upload s count (length y) (pairsFields (length (p ++ textOf nameData) + length (headOf 2 (length x))) (length x) size)) end
+      ∙ ap (λ (y : List ℕ). walked Kind.Upload s count (length y) (pairsFields (length (p ++ textOf nameData) + length (headOf 2 (length x)))
+      (length x) size)) end
 
   -- the data stands where its field says
   pub pairs-there : take (length x) (drop (length (p ++ textOf nameData) + length (headOf 2 (length x))) s) ≡ x
-  pairs-there = string-there s p (textOf nameData) (headOf 2 (length x)) x ((textOf nameLen ++ unsigned size) ++ ((textOf nameOff ++ unsigned 0) ++ post)) pairs-all
+  pairs-there =
+      string-there s p (textOf nameData) (headOf 2 (length x)) x ((textOf nameLen ++ unsigned size) ++ ((textOf nameOff ++ unsigned 0) ++ post)) pairs-all
 
 -- an upload at offset 0 without a tag
 module _ (s pre x : List ℕ) (size : ℕ) (tag : List ℕ) (none : length tag ≡ 0) (parts : s ≡ pre ++ firstMap x size tag) where

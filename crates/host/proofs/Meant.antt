@@ -26,7 +26,7 @@ use Rattle.cbor.specs.Write.{textOf, mapOf}
 use Rattle.map.specs.declared.Kind.{Kind}
 use Rattle.map.specs.declared.Key.{Key}
 use Rattle.map.specs.Keys.{nameD, nameR}
-use Rattle.map.specs.Fields.{indexOf, flagNumber, firstOf, secondOf, stored, numberIn, runIn, flagIn}
+use Rattle.map.specs.Fields.{indexOf, firstOf, secondOf, stored, numberIn, runIn, flagIn}
 use Rattle.map.specs.Walk.{mapFrom}
 use Rattle.slot.specs.declared.Upload.{Upload}
 use Rattle.slot.specs.Plan.{above, largest}
@@ -40,12 +40,48 @@ use Rattle.smp.specs.Request.{commandOf, mapped, echoWith, eraseWith, uploadWit
 use Rattle.smp.specs.Reply.{rcMap, replyMap, replyHeader, replyPacket}
 use Rattle.smp.proofs.Headers.{header-length, header-back, sized-back}
 use Rattle.smp.proofs.Writing.{text-map}
-use Rattle.host.specs.Write.{requestHeader, requestPacket, echoMap, laterMap, firstMap, misSized, Outcome, packet, unsendable, put, writeEcho, writeReset, writeErase, writeFirst, writeUpload}
-use Rattle.host.specs.Read.{reply, orZero, replyWith, valuesOf, mapRead, isReply, readReply}
+use Rattle.host.specs.Write.{
+  requestHeader,
+  requestPacket,
+  echoMap,
+  laterMap,
+  firstMap,
+  misSized,
+  Outcome,
+  packet,
+  unsendable,
+  put,
+  writeEcho,
+  writeReset,
+  writeErase,
+  writeFirst,
+  writeUpload,
+}
+use Rattle.host.specs.Read.{reply, orZero, valuesOf, mapRead, isReply, readReply}
 use Rattle.host.specs.Meant.{sent, EchoMeant, ResetMeant, EraseMeant, UploadIs, UploadMeant, rcMeant, offMeant, textMeant, TextIs, Writable, ReplyMeant}
 use Rattle.host.proofs.Writing.{request-length, sent-whole, echo-length, later-length, first-length-untagged, first-length-tagged, tag-size}
 use Rattle.host.proofs.Walking.{header-read}
-use Rattle.host.proofs.Maps.{key-d, key-r, empty-read, textAt, text-read, text-there, rc-read, placed-read, dataAt, withData, later-read, later-there, pairsFields, untagged-read, untagged-there, tagPlace, tagged-read, tagged-there, tag-there}
+use Rattle.host.proofs.Maps.{
+  key-d,
+  key-r,
+  empty-read,
+  textAt,
+  text-read,
+  text-there,
+  rc-read,
+  placed-read,
+  dataAt,
+  withData,
+  later-read,
+  later-there,
+  pairsFields,
+  untagged-read,
+  untagged-there,
+  tagPlace,
+  tagged-read,
+  tagged-there,
+  tag-there,
+}
 
 -- the header of a request that the host writes
 abbrev front : ℕ → ℕ → ℕ → List ℕ → List ℕ
@@ -61,7 +97,8 @@ front-length : (group sequence command : ℕ) (m : List ℕ) → length (front g
 front-length group sequence command m = header-length (requestHeader group sequence command (length m))
 
 -- a request that may be sent is read as what its command asks for
-request-read : (group sequence command : ℕ) (m : List ℕ) → group < 65536 → length (requestPacket group sequence command m) ≤ 65533 → (c : Command) → commandOf (requestHeader group sequence command (length m)) ≡ c
+request-read : (group sequence command : ℕ) (m : List ℕ) → group < 65536 → length (requestPacket group sequence command m) ≤ 65533 → (c : Command)
+    → commandOf (requestHeader group sequence command (length m)) ≡ c
     → readRequest (requestPacket group sequence command m) ≡ Reading.Is (requestOf c (requestPacket group sequence command m))
 unfolding requestPacket
 request-read group sequence command m small most c is =
@@ -96,7 +133,8 @@ reset-meant sequence out n bound e =
     let w = sent-whole p out n e in
     ap readRequest (w .1)
     ∙ request-read 0 sequence 5 (mapOf 0) (lit< tt) (w .0) Command.Reset (reset-command sequence (length (mapOf 0)))
-    ∙ ap (λ (m : Option (List ℕ)). Reading.Is (mapped (λ (f : List ℕ). Request.Reset) m)) (empty-read Kind.Reset p (front 0 sequence 5 (mapOf 0)) (request-parts 0 sequence 5 (mapOf 0)) (front-length 0 sequence 5 (mapOf 0)))
+    ∙ ap (λ (m : Option (List ℕ)). Reading.Is (mapped (λ (f : List ℕ). Request.Reset) m))
+    (empty-read Kind.Reset p (front 0 sequence 5 (mapOf 0)) (request-parts 0 sequence 5 (mapOf 0)) (front-length 0 sequence 5 (mapOf 0)))
 
 -- so is an erase
 pub erase-meant : EraseMeant
@@ -106,7 +144,8 @@ erase-meant sequence out n bound e =
     let w = sent-whole p out n e in
     ap readRequest (w .1)
     ∙ request-read 1 sequence 5 (mapOf 0) (lit< tt) (w .0) Command.Erase (erase-command sequence (length (mapOf 0)))
-    ∙ ap (λ (m : Option (List ℕ)). Reading.Is (mapped (λ (f : List ℕ). eraseWith (numberIn f Key.Slot)) m)) (empty-read Kind.Erase p (front 1 sequence 5 (mapOf 0)) (request-parts 1 sequence 5 (mapOf 0)) (front-length 1 sequence 5 (mapOf 0)))
+    ∙ ap (λ (m : Option (List ℕ)). Reading.Is (mapped (λ (f : List ℕ). eraseWith (numberIn f Key.Slot)) m))
+    (empty-read Kind.Erase p (front 1 sequence 5 (mapOf 0)) (request-parts 1 sequence 5 (mapOf 0)) (front-length 1 sequence 5 (mapOf 0)))
 
 -- an echo that was written is read as the echo of that text
 pub echo-meant : EchoMeant
@@ -122,7 +161,8 @@ echo-meant sequence text out n bound small e =
       start,
       ap readRequest (w .1)
           ∙ request-read 0 sequence 0 m (lit< tt) (w .0) Command.Echo (echo-command sequence (length m))
-          ∙ ap (λ (x : Option (List ℕ)). Reading.Is (mapped (λ (f : List ℕ). echoWith (runIn f Key.Text)) x)) (text-read Kind.Echo p pre nameD text parts (front-length 0 sequence 0 m) key-d (lit< tt) fits),
+          ∙ ap (λ (x : Option (List ℕ)). Reading.Is (mapped (λ (f : List ℕ). echoWith (runIn f Key.Text)) x))
+          (text-read Kind.Echo p pre nameD text parts (front-length 0 sequence 0 m) key-d (lit< tt) fits),
       ap (λ (l : List ℕ). take (length text) (drop start l)) (w .1) ∙ text-there Kind.Echo p pre nameD text parts,
     )
 
@@ -271,7 +311,8 @@ reply-meant s (Answered.Placed n) bytes is can most = (0, placed-meant s n bytes
 reply-meant s (Answered.Text from len) bytes is can most = text-meant s from len bytes is can most
 
 -- a writer that says that it wrote a packet passed the test before it
-not-refused : (t : Bool) (out : List ℕ) (b : Outcome) (n : ℕ) → pick t (unsendable out) b .says ≡ packet n → (t ≡ false) × (pick t (unsendable out) b ≡ b) × (b .says ≡ packet n)
+not-refused : (t : Bool) (out : List ℕ) (b : Outcome) (n : ℕ) → pick t (unsendable out) b .says ≡ packet n → (t ≡ false)
+    × (pick t (unsendable out) b ≡ b) × (b .says ≡ packet n)
 unfolding pick
 not-refused true out b n e = absurd (let z : _≡_ {A = ℕ} 0 1 = cc in omega arith)
 not-refused false out b n e = (refl, refl, e)
@@ -287,12 +328,14 @@ module _ (sequence : ℕ) (x : List ℕ) (off size : ℕ) (tag out : List ℕ) (
       (ltb-false 4294967295 off (a .0), a .1 ∙ b .1 ∙ rw (ne-eqb off 0 past, pick-no) refl)
 
   -- at offset 0
-  first-went : off ≡ 0 → (size ≤ 4294967295) × (misSized tag ≡ false) × (writeUpload sequence x off size tag out ≡ put (requestPacket 1 sequence 1 (firstMap x size tag)) out)
+  first-went : off ≡ 0 → (size ≤ 4294967295) × (misSized tag ≡ false)
+      × (writeUpload sequence x off size tag out ≡ put (requestPacket 1 sequence 1 (firstMap x size tag)) out)
   unfolding writeUpload writeFirst
   first-went start =
       let a = not-refused (ltb 4294967295 off) out _ n e in
       let b = not-refused (eqb (length x) 0) out _ n (a .2) in
-      let chosen : pick (eqb off 0) (writeFirst sequence x size tag out) (put (requestPacket 1 sequence 1 (laterMap x off)) out) ≡ writeFirst sequence x size tag out = rw (eq-eqb off 0 start, pick-yes) refl in
+      let chosen : pick (eqb off 0) (writeFirst sequence x size tag out) (put (requestPacket 1 sequence 1 (laterMap x off)) out)
+      ≡ writeFirst sequence x size tag out = rw (eq-eqb off 0 start, pick-yes) refl in
       let c = not-refused (eqb size 0) out _ n (ap (λ (o : Outcome). o .says) (sym chosen) ∙ b .2) in
       let d = not-refused (ltb 4294967295 size) out _ n (c .2) in
       let f = not-refused (ltb size (length x)) out _ n (d .2) in
@@ -421,7 +464,8 @@ upload-meant sequence x off size tag out n bound bx bt e =
         let w = sent-whole (requestPacket 1 sequence 1 m) out n (ap (λ (o : Outcome). o .says) (sym went) ∙ e) in
         subst (λ (l : List ℕ). (u : Upload) × UploadIs x off size tag l u) (sym (ap (λ (o : Outcome). take n (o .buffer)) went ∙ w .1)) (meant (w .0))
 
-    at-start : off ≡ 0 → (size ≤ 4294967295) × (misSized tag ≡ false) × (writeUpload sequence x off size tag out ≡ put (requestPacket 1 sequence 1 (firstMap x size tag)) out)
+    at-start : off ≡ 0 → (size ≤ 4294967295) × (misSized tag ≡ false)
+        × (writeUpload sequence x off size tag out ≡ put (requestPacket 1 sequence 1 (firstMap x size tag)) out)
         → (u : Upload) × UploadIs x off size tag (sent (writeUpload sequence x off size tag out) n) u
     at-start zero w =
         moved (firstMap x size tag) (w .2)

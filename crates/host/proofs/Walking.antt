@@ -52,7 +52,8 @@ pub step-bytes : (kind : Kind) (s pre k x post : List ℕ) (f : List ℕ) (key :
     → s ≡ pre ++ ((textOf k ++ bytesOf x) ++ post)
     → keyOf kind k ≡ key → length k < 2 ^ 64 → length x < 2 ^ 64 → getD f (placeOf key) 0 ≡ 0 → typeFor key ≡ 2
     → walked kind s (suc count) (length pre) f
-    ≡ walked kind s count (length (pre ++ (textOf k ++ bytesOf x))) (stored key (Value.Bytes (length (pre ++ textOf k) + length (headOf 2 (length x))) (length x)) f)
+    ≡ walked kind s count (length (pre ++ (textOf k ++ bytesOf x))) (stored key (Value.Bytes (length (pre ++ textOf k) + length (headOf 2 (length x)))
+    (length x)) f)
 step-bytes kind s pre k x post f key count parts is small fits free type =
     step kind s pre k (bytesOf x) post f key (Value.Bytes (length (pre ++ textOf k) + length (headOf 2 (length x))) (length x)) count parts is
     (pair-bytes kind pre k f small (rw is free) x post fits (rw is type))
@@ -62,7 +63,8 @@ pub step-text : (kind : Kind) (s pre k x post : List ℕ) (f : List ℕ) (key : 
     → s ≡ pre ++ ((textOf k ++ textOf x) ++ post)
     → keyOf kind k ≡ key → length k < 2 ^ 64 → length x < 2 ^ 64 → getD f (placeOf key) 0 ≡ 0 → typeFor key ≡ 3
     → walked kind s (suc count) (length pre) f
-    ≡ walked kind s count (length (pre ++ (textOf k ++ textOf x))) (stored key (Value.Text (length (pre ++ textOf k) + length (headOf 3 (length x))) (length x)) f)
+    ≡ walked kind s count (length (pre ++ (textOf k ++ textOf x))) (stored key (Value.Text (length (pre ++ textOf k) + length (headOf 3 (length x)))
+    (length x)) f)
 step-text kind s pre k x post f key count parts is small fits free type =
     step kind s pre k (textOf x) post f key (Value.Text (length (pre ++ textOf k) + length (headOf 3 (length x))) (length x)) count parts is
     (pair-text kind pre k f small (rw is free) x post fits (rw is type))
@@ -79,7 +81,8 @@ string-there s pre k head x post parts =
     regroup pre k head x post = simp append-assoc
 
 -- a map's head after eight bytes begins the walk over its pairs
-pub map-start : (kind : Kind) (s pre post : List ℕ) (n : ℕ) → s ≡ pre ++ (mapOf n ++ post) → length pre ≡ 8 → n < 2 ^ 64 → mapFrom kind s 8 ≡ walked kind s n (length (pre ++ mapOf n)) nothing
+pub map-start : (kind : Kind) (s pre post : List ℕ) (n : ℕ) → s ≡ pre ++ (mapOf n ++ post) → length pre ≡ 8 → n < 2 ^ 64 → mapFrom kind s 8
+    ≡ walked kind s n (length (pre ++ mapOf n)) nothing
 map-start kind s pre post n parts eight small =
     ap₂ (λ (l : List ℕ) (k : ℕ). mapFrom kind l k) parts (sym eight)
     ∙ map-back kind pre post n small
@@ -103,7 +106,8 @@ unfolding isRequest both
 tested h m size op = ap₂ (λ (b : Bool) (o : ℕ). both b (not (both (not (eqb o 0)) (not (eqb o 2))))) size op
 
 -- a packet with the header of a request is read as what its command asks for
-pub header-read : (h : Header) (m : List ℕ) → h .op ≡ 2 → h .length ≡ length m → length m ≤ 65525 → h .group < 65536 → readRequest (headerBytes h ++ m) ≡ Reading.Is (requestOf (commandOf h) (headerBytes h ++ m))
+pub header-read : (h : Header) (m : List ℕ) → h .op ≡ 2 → h .length ≡ length m → length m ≤ 65525 → h .group < 65536
+    → readRequest (headerBytes h ++ m) ≡ Reading.Is (requestOf (commandOf h) (headerBytes h ++ m))
 unfolding readRequest
 header-read h m op size small group =
     let s : List ℕ = headerBytes h ++ m in

@@ -83,7 +83,8 @@ request-sent group sequence command m {d} {e₁} {e₂} total end size may p w =
     ∙ sym (put-whole (requestPacket group sequence command m) d (omega (arith, t)) (omega (arith, t)))
 
 -- a request that may not be sent is refused
-pub request-refused : (group sequence command : ℕ) (m d : List ℕ) (total : ℕ) → total ≡ 8 + length m → sendable total (length d) ≡ false → unsendable d ≡ put (requestPacket group sequence command m) d
+pub request-refused : (group sequence command : ℕ) (m d : List ℕ) (total : ℕ) → total ≡ 8 + length m → sendable total (length d) ≡ false
+    → unsendable d ≡ put (requestPacket group sequence command m) d
 unfolding sendable
 request-refused group sequence command m d total size may =
     let n = request-length group sequence command m in
@@ -146,11 +147,13 @@ later-parts x off =
     ∙ sym (append-assoc (mapOf 2) (textOf nameData ++ bytesOf x) (textOf nameOff ++ unsigned off))
 
 -- the pairs of an upload at offset 0, one by one, before what follows them
-pairs-flat : (x : List ℕ) (size : ℕ) (post : List ℕ) → textOf nameData ++ (bytesOf x ++ (textOf nameLen ++ (unsigned size ++ (textOf nameOff ++ (unsigned 0 ++ post))))) ≡ firstPairs x size ++ post
+pairs-flat : (x : List ℕ) (size : ℕ) (post : List ℕ) → textOf nameData ++
+    (bytesOf x ++ (textOf nameLen ++ (unsigned size ++ (textOf nameOff ++ (unsigned 0 ++ post))))) ≡ firstPairs x size ++ post
 pairs-flat x size post = simp append-assoc
 
 -- the same pairs at the end of the map
-pairs-last : (x : List ℕ) (size : ℕ) → textOf nameData ++ (bytesOf x ++ (textOf nameLen ++ (unsigned size ++ (textOf nameOff ++ unsigned 0)))) ≡ firstPairs x size
+pairs-last : (x : List ℕ) (size : ℕ) → textOf nameData ++ (bytesOf x ++ (textOf nameLen ++ (unsigned size ++ (textOf nameOff ++ unsigned 0))))
+    ≡ firstPairs x size
 pairs-last x size = simp append-assoc
 
 -- the map at offset 0 without a tag, in the parts that its writer writes
@@ -159,11 +162,13 @@ unfolding firstMap
 first-untagged x size tag e = rw (eq-eqb (length tag) 0 e, pick-yes) (ap (λ (l : List ℕ). mapOf 3 ++ l) (pairs-last x size))
 
 -- so the one with a tag
-pub first-tagged : (x : List ℕ) (size : ℕ) (tag : List ℕ) → (length tag ≡ 0 → ⊥) → firstMap x size tag ≡ (mapOf 4 ++ firstPairs x size) ++ (textOf nameSha ++ bytesOf tag)
+pub first-tagged : (x : List ℕ) (size : ℕ) (tag : List ℕ) → (length tag ≡ 0 → ⊥) → firstMap x size tag ≡ (mapOf 4 ++ firstPairs x size) ++
+    (textOf nameSha ++ bytesOf tag)
 unfolding firstMap
 first-tagged x size tag e =
     rw (ne-eqb (length tag) 0 e, pick-no)
-    (ap (λ (l : List ℕ). mapOf 4 ++ l) (pairs-flat x size (textOf nameSha ++ bytesOf tag)) ∙ sym (append-assoc (mapOf 4) (firstPairs x size) (textOf nameSha ++ bytesOf tag)))
+    (ap (λ (l : List ℕ). mapOf 4 ++ l) (pairs-flat x size (textOf nameSha ++ bytesOf tag))
+    ∙ sym (append-assoc (mapOf 4) (firstPairs x size) (textOf nameSha ++ bytesOf tag)))
 
 -- how long an echo's map is
 pub echo-length : (text : List ℕ) → length (echoMap text) ≡ 3 + length (headOf 0 (length text)) + length text
@@ -180,12 +185,14 @@ pairs-length : (x : List ℕ) (size : ℕ) → length (firstPairs x size) ≡ 14
 pairs-length x size = simp length-append (omega (arith, head-tiny 3 4 (lit< tt), head-tiny 3 3 (lit< tt), head-tiny 0 0 (lit< tt), head-length 2 (length x)))
 
 -- how long the map at offset 0 is without a tag
-pub first-length-untagged : (x : List ℕ) (size : ℕ) (tag : List ℕ) → length tag ≡ 0 → length (firstMap x size tag) ≡ 15 + length (headOf 0 (length x)) + length x + length (headOf 0 size)
+pub first-length-untagged : (x : List ℕ) (size : ℕ) (tag : List ℕ) → length tag ≡ 0 → length (firstMap x size tag)
+    ≡ 15 + length (headOf 0 (length x)) + length x + length (headOf 0 size)
 first-length-untagged x size tag e =
     ap length (first-untagged x size tag e) ∙ length-append (mapOf 3) (firstPairs x size) ∙ omega (arith, head-tiny 5 3 (lit< tt), pairs-length x size)
 
 -- how long it is with a tag
-pub first-length-tagged : (x : List ℕ) (size : ℕ) (tag : List ℕ) → length tag ≡ 32 → length (firstMap x size tag) ≡ 53 + length (headOf 0 (length x)) + length x + length (headOf 0 size)
+pub first-length-tagged : (x : List ℕ) (size : ℕ) (tag : List ℕ) → length tag ≡ 32 → length (firstMap x size tag)
+    ≡ 53 + length (headOf 0 (length x)) + length x + length (headOf 0 size)
 first-length-tagged x size tag e =
     let apart : length tag ≡ 0 → ⊥ = λ z. omega arith in
     ap length (first-tagged x size tag apart) ∙ sizes

@@ -38,10 +38,14 @@ EchoMeant =
 
 -- so are reset and erase
 abbrev pub ResetMeant : Type 0
-ResetMeant = (sequence : ℕ) (out : List ℕ) (n : ℕ) → sequence < 256 → writeReset sequence out .says ≡ packet n → readRequest (sent (writeReset sequence out) n) ≡ Reading.Is Request.Reset
+ResetMeant =
+    (sequence : ℕ) (out : List ℕ) (n : ℕ) → sequence < 256 → writeReset sequence out .says ≡ packet n → readRequest (sent (writeReset sequence out) n)
+    ≡ Reading.Is Request.Reset
 
 abbrev pub EraseMeant : Type 0
-EraseMeant = (sequence : ℕ) (out : List ℕ) (n : ℕ) → sequence < 256 → writeErase sequence out .says ≡ packet n → readRequest (sent (writeErase sequence out) n) ≡ Reading.Is Request.Erase
+EraseMeant =
+    (sequence : ℕ) (out : List ℕ) (n : ℕ) → sequence < 256 → writeErase sequence out .says ≡ packet n → readRequest (sent (writeErase sequence out) n)
+    ≡ Reading.Is Request.Erase
 
 -- an upload request p is read as u: the offset, the data, and at offset 0 the length and the tag; nothing else is asked
 pub record UploadIs (x : List ℕ) (off size : ℕ) (tag p : List ℕ) (u : Upload) : Type 0 where

@@ -15,7 +15,8 @@ ghost use Rattle.cbor.specs.Put.{Put};
 ghost use Rattle.cbor.specs.Write.{bytesOf, textOf};
 ghost use Rattle.slot.specs.Plan.{above, largest};
 ghost use Rattle.smp.specs.Packet.{headerBytes};
-ghost use Rattle.host.specs.Write.{requestHeader, requestPacket, echoMap, laterMap, firstMap, outcome, put, misSized, writeEcho, writeReset, writeErase, writeFirst, writeUpload, nextSequence};
+ghost use Rattle.host.specs.Write.{requestHeader, requestPacket, echoMap, laterMap, firstMap, outcome, put, misSized, writeEcho};
+ghost use Rattle.host.specs.Write.{writeReset, writeErase, writeFirst, writeUpload, nextSequence};
 ghost use Rattle.host.specs.Read.{said, orZero, replyWith, valuesOf, isReply, readReply};
 ghost use Rattle.host.specs.Contract.{sendable, emptyRequest, firstPairs};
 
@@ -213,7 +214,8 @@ fn first_len(data: &[u8], size: u64, tag: &[u8]) -> usize
 fn send_first(sequence: u8, data: &[u8], size: u64, tag: &[u8], out: &mut [u8]) -> Written
     requires { ⌜ length (now «data») ≤ 4294967295 ⌝ }
     requires { ⌜ misSized (now tag) ≡ false ⌝ }
-    ensures { λ r. ⌜ outcome r (now (out .exit)) ≡ put (requestPacket 1 sequence 1 (firstMap (now («data» .entry)) size (now (tag .entry)))) (now (out .entry)) ⌝ }
+    ensures { λ r. ⌜ outcome r (now (out .exit)) ≡ put (requestPacket 1 sequence 1 (firstMap (now («data» .entry)) size (now (tag .entry))))
+        (now (out .entry)) ⌝ }
 {
     let total = first_len(data, size, tag);
     if !is_sendable(total, out.len()) {

@@ -1,5 +1,5 @@
--- The laws of a choice: each way of the test, what holds of both arms holds of the choice, and a choice that is what its first arm
--- can't be went the other way.
+-- The laws of a choice: each way of the test, what holds of both arms holds of the choice, and a choice that is what its second arm
+-- can't be went the first way.
 -- Assumes nothing.
 use mathlib.Core.Path.{_≡_, refl}
 use mathlib.Core.Bool.{Bool, true, false, false≢true}
@@ -29,18 +29,6 @@ pub pick-arms : {A : Type 0} (t : Bool) {a b c d : A} → (t ≡ true → a ≡ 
 unfolding pick
 pick-arms true f g = f refl
 pick-arms false f g = g refl
-
--- what holds between the first arms of two choices by one test, and between their second arms, holds between the choices
-pub pick-between : {A B : Type 0} (P : A → B → Type 0) (t : Bool) (a b : A) (x y : B) → (t ≡ true → P a x) → (t ≡ false → P b y) → P (pick t a b) (pick t x y)
-unfolding pick
-pick-between P true a b x y f g = f refl
-pick-between P false a b x y f g = g refl
-
--- a choice whose first arm can't be z, and which is z, took the second
-pub pick-skip : {A : Type 0} (t : Bool) (a b z : A) → (a ≡ z → ⊥) → pick t a b ≡ z → (t ≡ false) × (b ≡ z)
-unfolding pick
-pick-skip true a b z never e = absurd (never e)
-pick-skip false a b z never e = (refl, e)
 
 -- a choice whose second arm can't be z, and which is z, took the first
 pub pick-keep : {A : Type 0} (t : Bool) (a b z : A) → (b ≡ z → ⊥) → pick t a b ≡ z → (t ≡ true) × (a ≡ z)

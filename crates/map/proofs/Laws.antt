@@ -20,7 +20,7 @@ use Rattle.cbor.proofs.Laws.{head-back, head-size, unsigned-back, bytes-back, t
 use Rattle.map.specs.declared.Kind.{Kind}
 use Rattle.map.specs.Keys.{keyOf, typeOf, typeFor}
 use Rattle.map.specs.Fields.{placeOf, nothing, stored}
-use Rattle.map.specs.Walk.{Found, upTo, valued, pairAt, andThen, pairs, mapAt, endingAt, mapFrom}
+use Rattle.map.specs.Walk.{Found, upTo, valued, pairAt, andThen, pairs, endingAt, mapFrom}
 use Rattle.map.proofs.Ways.{value-is, enter-field, pair-whole, map-pairs}
 
 -- the fields of n pairs from a place on, where they end with the bytes
@@ -95,7 +95,8 @@ module _ (kind : Kind) (pre k : List ℕ) (f : List ℕ) (small : length k < 2 ^
       (value-there pre (textOf k) (textOf x) post _ (text-back (pre ++ textOf k) x post fits))
 
 -- the walk goes on over a pair that was read back
-pub walk-on : (kind : Kind) (s : List ℕ) (n at : ℕ) (f : List ℕ) (next : ℕ) (g : List ℕ) → pairAt kind s at f ≡ upTo next g → walked kind s (suc n) at f ≡ walked kind s n next g
+pub walk-on : (kind : Kind) (s : List ℕ) (n at : ℕ) (f : List ℕ) (next : ℕ) (g : List ℕ) → pairAt kind s at f ≡ upTo next g
+    → walked kind s (suc n) at f ≡ walked kind s n next g
 unfolding pairs andThen
 walk-on kind s n at f next g e = ap (λ (w : Found). endingAt (length s) (andThen w (λ at′ f′. pairs kind s n at′ f′))) e
 

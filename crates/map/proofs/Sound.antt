@@ -1,17 +1,16 @@
 -- Every string among the fields of a map that was read lies within the bytes that it was read from.
 -- Assumes nothing.
-use mathlib.Core.Path.{_≡_, refl, sym, ap, ap₂, _∙_}
-use mathlib.Core.Bool.{Bool, true, false, not}
+use mathlib.Core.Path.{_≡_, refl, _∙_}
+use mathlib.Core.Bool.{not}
 use mathlib.Core.List.{List}
 use mathlib.Core.Option.{Option, none, some}
 use Prim.Native.Nat.{ℕ, zero, suc, _+_, _*_, _-_, _≤_, _<_}
 use native.Mathlib.Decide.{decLe}
 use native.Mathlib.Omega.{arith}
-use lib.Dec.{ltb, eqb, lit<}
-use lib.ListN.{length, getD, set, take, drop, length-set, length-replicate}
+use lib.Dec.{ltb, eqb}
+use lib.ListN.{length, getD, set, take, drop, length-set}
 use lib.Seq.{getD-set-same, getD-set-other}
 use borrow.Author.Tests.{eqb-true, not-false}
-use Rattle.laws.specs.declared.Run.{Run}
 use Rattle.laws.specs.Parts.{Within}
 use Rattle.laws.proofs.Choice.{pick-case}
 use Rattle.cbor.specs.declared.Value.{Value}
@@ -168,7 +167,8 @@ keyed-sound kind s f (Head.Is major n at) o =
     (λ g. valued-sound s f (keyOf kind (take n (drop at s))) (at + n) (itemAt s (at + n)) (item-within s (at + n)) o))
 
 -- pairs in a row
-then-sound : (s : List ℕ) (w : Found) (go : ℕ → List ℕ → Found) → FoundSound s w → ((at : ℕ) (f : List ℕ) → Sound s f → FoundSound s (go at f)) → FoundSound s (andThen w go)
+then-sound : (s : List ℕ) (w : Found) (go : ℕ → List ℕ → Found) → FoundSound s w → ((at : ℕ) (f : List ℕ) → Sound s f → FoundSound s (go at f))
+    → FoundSound s (andThen w go)
 unfolding andThen FoundSound
 then-sound s malformed go o each = tt
 then-sound s (upTo at f) go o each = each at f o

@@ -4,11 +4,11 @@ use mathlib.Core.Path.{_≡_, refl, ap, _∙_, sym, subst}
 use mathlib.Core.Bool.{Bool, true, false, not, true≢false}
 use mathlib.Core.List.{List}
 use mathlib.Core.Option.{Option, none, some}
-use Prim.Native.Nat.{ℕ, _+_, _-_, _*_, _≤_, _<_}
+use Prim.Native.Nat.{ℕ, _+_, _-_, _≤_}
 use native.Mathlib.Omega.{arith}
 use lib.Dec.{ltb, leb, eqb}
-use lib.ListN.{length, getD, drop, take}
-use borrow.Author.Tests.{ltb-true, ltb-false, leb-true}
+use lib.ListN.{length, drop, take}
+use borrow.Author.Tests.{ltb-true, leb-true}
 use Rattle.laws.specs.Choice.{pick, both}
 use Rattle.laws.specs.Bytes.{Bytes, ofBe16}
 use Rattle.laws.proofs.Choice.{pick-case, pick-yes, pick-no, both-true}
@@ -23,10 +23,29 @@ use Rattle.base64.proofs.Laws.{decode-bytes}
 use Rattle.frame.specs.Line.{marked, ended, textOf}
 use Rattle.reader.specs.declared.Reader.{Reader}
 use Rattle.reader.specs.declared.Reader.the-variants.{Idle, Open}
-use Rattle.reader.specs.Reader.{Outcome, outcome, said, more, body, refused, keeping, dropping, possible, crcBytes, filled, waiting, completed, absorb, begin, resume, begun, resumed, takeLine}
+use Rattle.reader.specs.Reader.{
+  Outcome,
+  outcome,
+  said,
+  body,
+  refused,
+  keeping,
+  dropping,
+  possible,
+  crcBytes,
+  filled,
+  waiting,
+  completed,
+  absorb,
+  begin,
+  resume,
+  begun,
+  resumed,
+  takeLine,
+}
 use Rattle.port.specs.Records.{readerOf, readerNumbers}
 use Rattle.port.specs.Calls.{TookLine, keepsRecord, tookBy, tookLine}
-use Rattle.port.specs.Small.{Storable, SmallBy}
+use Rattle.port.specs.Contract.{SmallBy}
 
 -- an outcome can be handed over
 abbrev Small : Outcome → Type 0
@@ -36,7 +55,8 @@ Small o = SmallBy (o .says) (o .reader)
 small-completed : (total come first : ℕ) (x p : List ℕ) → total ≤ 65535 → Small (completed total come first x p)
 unfolding completed
 small-completed total come first x p h =
-    pick-case Small (eqb (ofBe16 (crcBytes total come first x)) (crcOf (take (total - 2) (filled total come x p)))) _ (dropping 9 p) (λ e. (omega arith, tt)) (λ e f. tt)
+    pick-case Small (eqb (ofBe16 (crcBytes total come first x)) (crcOf (take (total - 2) (filled total come x p)))) _ (dropping 9 p)
+    (λ e. (omega arith, tt)) (λ e f. tt)
 
 -- bytes that come
 small-absorb : (total come first : ℕ) (x p : List ℕ) → total ≤ 65535 → Small (absorb total come first x p)
@@ -66,7 +86,8 @@ unfolding resume possible both
 small-resume Idle raw p = λ e. tt
 small-resume (Open total come first) raw p =
     pick-case Small (both (leb 10 total) (both (leb total 65535) (ltb come total))) (absorb total come first raw p) (keeping 5 (Open total come first) p)
-    (λ e. small-absorb total come first raw p (leb-true total 65535 (both-true (leb total 65535) (ltb come total) (both-true (leb 10 total) (both (leb total 65535) (ltb come total)) e .1) .0)))
+    (λ e. small-absorb total come first raw p (leb-true total 65535 (both-true (leb total 65535) (ltb come total)
+    (both-true (leb 10 total) (both (leb total 65535) (ltb come total)) e .1) .0)))
     (λ e f. absurd (true≢false f))
 
 -- any line
@@ -89,7 +110,8 @@ small-line r line p =
     partial (some raw) = small-resume r raw p
 
 -- what the reader gave and left, as the call's own outcome
-pub took-is : (r line p : List ℕ) (b : ℕ) (t : Taken) (p′ : List ℕ) (before : Reader) → before ≡ readerOf r → outcome t p′ ≡ takeLine before line p → tookLine r line p b ≡ tookBy r b (t .reader) p′ (said (t .answer))
+pub took-is : (r line p : List ℕ) (b : ℕ) (t : Taken) (p′ : List ℕ) (before : Reader) → before ≡ readerOf r → outcome t p′
+    ≡ takeLine before line p → tookLine r line p b ≡ tookBy r b (t .reader) p′ (said (t .answer))
 unfolding tookLine
 took-is r line p b t p′ before e f =
     ap (λ (o : Outcome). tookBy r b (o .reader) (o .buffer) (o .says)) (sym (f ∙ ap (λ (k : Reader). takeLine k line p) e))
@@ -99,15 +121,20 @@ pub taken-small : (line p : List ℕ) (t : Taken) (p′ : List ℕ) (before : Re
 taken-small line p t p′ before f = subst Small (sym f) (small-line before line p)
 
 -- each answer, handed over
-pub took-more : (r p : List ℕ) (b : ℕ) (t : Taken) (rec : List ℕ) → t .answer ≡ More → rec ≡ readerNumbers (t .reader) → _≡_ {A = TookLine} (record { result = 0; record-after = rec; packet = p; body = 0 }) (tookBy r b (t .reader) p (said (t .answer)))
+pub took-more : (r p : List ℕ) (b : ℕ) (t : Taken) (rec : List ℕ) → t .answer ≡ More → rec ≡ readerNumbers (t .reader)
+    → _≡_ {A = TookLine} (record { result = 0; record-after = rec; packet = p; body = 0 }) (tookBy r b (t .reader) p (said (t .answer)))
 unfolding tookBy
-took-more r p b t rec e f = (λ i. record { result = 0; record-after = f i; packet = p; body = 0 }) ∙ ap (λ (a : Answer). tookBy r b (t .reader) p (said a)) (sym e)
+took-more r p b t rec e f =
+    (λ i. record { result = 0; record-after = f i; packet = p; body = 0 }) ∙ ap (λ (a : Answer). tookBy r b (t .reader) p (said a)) (sym e)
 
-pub took-body : (r p : List ℕ) (b : ℕ) (t : Taken) (rec : List ℕ) (n : ℕ) → t .answer ≡ Packet n → rec ≡ readerNumbers (t .reader) → _≡_ {A = TookLine} (record { result = 0; record-after = rec; packet = p; body = n }) (tookBy r b (t .reader) p (said (t .answer)))
+pub took-body : (r p : List ℕ) (b : ℕ) (t : Taken) (rec : List ℕ) (n : ℕ) → t .answer ≡ Packet n → rec ≡ readerNumbers (t .reader)
+    → _≡_ {A = TookLine} (record { result = 0; record-after = rec; packet = p; body = n }) (tookBy r b (t .reader) p (said (t .answer)))
 unfolding tookBy
-took-body r p b t rec n e f = (λ i. record { result = 0; record-after = f i; packet = p; body = n }) ∙ ap (λ (a : Answer). tookBy r b (t .reader) p (said a)) (sym e)
+took-body r p b t rec n e f =
+    (λ i. record { result = 0; record-after = f i; packet = p; body = n }) ∙ ap (λ (a : Answer). tookBy r b (t .reader) p (said a)) (sym e)
 
-pub took-refused : (r p : List ℕ) (b : ℕ) (t : Taken) (rec : List ℕ) (n : ℕ) (why : Refusal) → t .answer ≡ Refused why → n ≡ numberOf why → rec ≡ pick (keepsRecord n) r (readerNumbers (t .reader))
+pub took-refused : (r p : List ℕ) (b : ℕ) (t : Taken) (rec : List ℕ) (n : ℕ) (why : Refusal) → t .answer ≡ Refused why → n ≡ numberOf why → rec
+    ≡ pick (keepsRecord n) r (readerNumbers (t .reader))
     → _≡_ {A = TookLine} (record { result = n; record-after = rec; packet = p; body = b }) (tookBy r b (t .reader) p (said (t .answer)))
 unfolding tookBy
 took-refused r p b t rec n why e f g =

@@ -40,8 +40,6 @@ use Rattle.controller.specs.Handle.{
   Outcome,
   outcome,
   Taking,
-  refusal,
-  request,
   asked,
   taking,
   actBy,
@@ -54,7 +52,7 @@ use Rattle.controller.proofs.Laws.{taking-impossible, handle-refused, reply-say
 use Rattle.controller.proofs.Calls.{call-fit}
 use Rattle.port.specs.Records.{sessionOf, sessionNumbers}
 use Rattle.port.specs.Calls.{HandledC, handledBy, handledC}
-use Rattle.port.specs.Small.{Held32}
+use Rattle.port.specs.Contract.{Held32}
 
 -- an act that is fit leaves small numbers small
 fit-small : (slot : Slot) (st : State) (a : Act) → slot .size ≤ 1048576 → Held32 (st .session) → Fit slot (st .session) a → Held32 (done slot a st .session)

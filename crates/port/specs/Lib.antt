@@ -1,4 +1,3 @@
 pub mod Records
 pub mod Calls
-pub mod Small
-pub mod Steps
+pub mod Contract

@@ -12,14 +12,14 @@ use slot::Configured;
 use slot::Session;
 use slot::Slot;
 ghost use mathlib.Core.Path.{_≡_};
-ghost use mathlib.Core.Bool.{Bool};
-ghost use mathlib.Core.List.{List, [], _∷_};
+ghost use mathlib.Core.List.{List};
 ghost use Prim.Native.Nat.{_<_, _≤_, ℕ};
-ghost use Rattle.port.specs.Records.{readerNumbers, sessionOf, sessionNumbers, flagOf, numberOfFlag, readerFrom, sessionFrom, thereOf, orNone, runThere, runStart, runLength, replyNumbers};
-ghost use Rattle.port.specs.Calls.{TookLine, tookLine, keepsRecord, HandledC, handledC, wroteBy, wroteC, sentFrame, configuredC, readC};
-ghost use Rattle.port.specs.Small.{Storable, Held32};
+ghost use Rattle.port.specs.Records.{readerNumbers, sessionNumbers, flagOf, numberOfFlag, readerFrom, sessionFrom, thereOf, orNone};
+ghost use Rattle.port.specs.Records.{runThere, runStart, runLength, replyNumbers};
+ghost use Rattle.port.specs.Calls.{tookLine, keepsRecord, handledC, wroteBy, wroteC, sentFrame, configuredC, readC};
+ghost use Rattle.port.specs.Contract.{Storable, Held32};
 ghost use Rattle.host.specs.Write.{told, packet, writeEcho, writeReset, writeErase, writeUpload, nextSequence};
-ghost use Rattle.port.specs.Steps.{ReplySmall};
+ghost use Rattle.port.specs.Contract.{ReplySmall};
 
 // The reader's record out of its four numbers.
 fn reader_from(open: u32, total: u32, come: u32, first: u32) -> Reader
@@ -78,7 +78,8 @@ pub extern "C" fn bg_take_line(
     packet: &mut [u8],
     body: &mut u32,
 ) -> u32
-    ensures { λ r. ⌜ record { result = r; record-after = now («record» .exit); packet = now (packet .exit); body = now (body .exit) } ≡ tookLine (now («record» .entry)) (now (line .entry)) (now (packet .entry)) (now (body .entry)) ⌝ }
+    ensures { λ r. ⌜ record { result = r; record-after = now («record» .exit); packet = now (packet .exit); body = now (body .exit) }
+        ≡ tookLine (now («record» .entry)) (now (line .entry)) (now (packet .entry)) (now (body .entry)) ⌝ }
 {
     let before = reader_from(record[0], record[1], record[2], record[3]);
     let taken = reader::take_line(before, line, packet);
@@ -159,7 +160,16 @@ pub extern "C" fn bg_handle(
     reply: &mut [u8],
     answer: &mut [u32; 2],
 ) -> u32
-    ensures { λ r. ⌜ record { result = r; memory = now (memory .exit); session = now («record» .exit); tag = now (tag .exit); reply = now (reply .exit); answer = now (answer .exit) } ≡ handledC (now (memory .entry)) start size (now («record» .entry)) (now (tag .entry)) (now (packet .entry)) (now (reply .entry)) (now (answer .entry)) ⌝ }
+    ensures { λ r. ⌜ record {
+      result = r;
+      memory = now (memory .exit);
+      session = now («record» .exit);
+      tag = now (tag .exit);
+      reply = now
+          (reply .exit);
+      answer = now (answer .exit);
+    } ≡ handledC (now (memory .entry)) start size (now («record» .entry)) (now (tag .entry))
+        (now (packet .entry)) (now (reply .entry)) (now (answer .entry)) ⌝ }
 {
     let before = session_from(record[0], record[1], record[2], record[3]);
     let slot = Slot { start, size };
@@ -210,7 +220,8 @@ fn told_c(w: Written, size: &mut u32) -> u32
 // Writes an echo request to the start of out.
 #[no_mangle]
 pub extern "C" fn bg_write_echo(sequence: u8, text: &[u8], out: &mut [u8], size: &mut u32) -> u32
-    ensures { λ r. ⌜ record { result = r; out = now (out .exit); size = now (size .exit) } ≡ wroteC (now (size .entry)) (writeEcho sequence (now (text .entry)) (now (out .entry))) ⌝ }
+    ensures { λ r. ⌜ record { result = r; out = now (out .exit); size = now (size .exit) } ≡ wroteC (now (size .entry))
+        (writeEcho sequence (now (text .entry)) (now (out .entry))) ⌝ }
 {
     let w = host::write_echo(sequence, text, out);
     told_c(w, size)
@@ -219,7 +230,8 @@ pub extern "C" fn bg_write_echo(sequence: u8, text: &[u8], out: &mut [u8], size:
 // Writes a reset request to the start of out.
 #[no_mangle]
 pub extern "C" fn bg_write_reset(sequence: u8, out: &mut [u8], size: &mut u32) -> u32
-    ensures { λ r. ⌜ record { result = r; out = now (out .exit); size = now (size .exit) } ≡ wroteC (now (size .entry)) (writeReset sequence (now (out .entry))) ⌝ }
+    ensures { λ r. ⌜ record { result = r; out = now (out .exit); size = now (size .exit) } ≡ wroteC (now (size .entry))
+        (writeReset sequence (now (out .entry))) ⌝ }
 {
     let w = host::write_reset(sequence, out);
     told_c(w, size)
@@ -228,7 +240,8 @@ pub extern "C" fn bg_write_reset(sequence: u8, out: &mut [u8], size: &mut u32) -
 // Writes an erase request to the start of out.
 #[no_mangle]
 pub extern "C" fn bg_write_erase(sequence: u8, out: &mut [u8], size: &mut u32) -> u32
-    ensures { λ r. ⌜ record { result = r; out = now (out .exit); size = now (size .exit) } ≡ wroteC (now (size .entry)) (writeErase sequence (now (out .entry))) ⌝ }
+    ensures { λ r. ⌜ record { result = r; out = now (out .exit); size = now (size .exit) } ≡ wroteC (now (size .entry))
+        (writeErase sequence (now (out .entry))) ⌝ }
 {
     let w = host::write_erase(sequence, out);
     told_c(w, size)
@@ -245,7 +258,8 @@ pub extern "C" fn bg_write_upload(
     out: &mut [u8],
     size: &mut u32,
 ) -> u32
-    ensures { λ r. ⌜ record { result = r; out = now (out .exit); size = now (size .exit) } ≡ wroteC (now (size .entry)) (writeUpload sequence (now («data» .entry)) off length (now (tag .entry)) (now (out .entry))) ⌝ }
+    ensures { λ r. ⌜ record { result = r; out = now (out .exit); size = now (size .exit) } ≡ wroteC (now (size .entry))
+        (writeUpload sequence (now («data» .entry)) off length (now (tag .entry)) (now (out .entry))) ⌝ }
 {
     let w = host::write_upload(sequence, data, off, length, tag, out);
     told_c(w, size)
@@ -254,7 +268,8 @@ pub extern "C" fn bg_write_upload(
 // Writes frame number k of a body, as a line, to the start of out.
 #[no_mangle]
 pub extern "C" fn bg_send_frame(body: &[u8], k: usize, out: &mut [u8], sent: &mut [u32; 2]) -> u32
-    ensures { λ r. ⌜ record { result = r; out = now (out .exit); sent = now (sent .exit) } ≡ sentFrame (now (body .entry)) k (now (out .entry)) (now (sent .entry)) ⌝ }
+    ensures { λ r. ⌜ record { result = r; out = now (out .exit); sent = now (sent .exit) } ≡ sentFrame (now (body .entry)) k (now (out .entry))
+        (now (sent .entry)) ⌝ }
 {
     match sender::send_frame(body, k, out) {
         Sent::Frame { length, count } => {
@@ -276,7 +291,8 @@ pub extern "C" fn bg_configure(
     session: &mut [u32; 4],
     tag: &mut [u8; 32],
 ) -> u32
-    ensures { λ r. ⌜ record { result = r; session = now (session .exit); tag = now (tag .exit) } ≡ configuredC start size room (now (session .entry)) (now (tag .entry)) ⌝ }
+    ensures { λ r. ⌜ record { result = r; session = now (session .exit); tag = now (tag .exit) } ≡ configuredC start size room
+        (now (session .entry)) (now (tag .entry)) ⌝ }
 {
     match slot::configure(start, size, room) {
         Configured::Ready(_) => {

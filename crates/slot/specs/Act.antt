@@ -1,7 +1,7 @@
 -- What a request does to memory, session and tag, whoever asked for it.
 -- Assumes nothing.
 use Prim.Native.Nat.{ℕ, _+_}
-use mathlib.Core.Bool.{Bool, true, false}
+use mathlib.Core.Bool.{Bool, true}
 use mathlib.Core.List.{List}
 use lib.ListN.{length, replicate}
 use Rattle.laws.specs.declared.Run.{Run}

@@ -3,7 +3,7 @@
 -- Assumes nothing.
 use Prim.Native.Nat.{ℕ, _+_, _-_, _≤_}
 use mathlib.Core.Path.{_≡_}
-use mathlib.Core.Bool.{Bool, true, false}
+use mathlib.Core.Bool.{true, false}
 use mathlib.Core.List.{List, [], _∷_, _++_}
 use lib.ListN.{length, take, drop, replicate}
 use Rattle.laws.specs.Bytes.{pasted}
@@ -73,7 +73,8 @@ unbroken slot m image n = pasted (blank slot m) (slot .start) (take n image)
 -- leaves
 abbrev pub Unbroken : Type 0
 Unbroken =
-    (slot : Slot) (first : State) (acts : List Act) (st : State) (image : List ℕ) → regionOk slot (length (first .memory)) ≡ true → first .session .running ≡ false
+    (slot : Slot) (first : State) (acts : List Act) (st : State) (image : List ℕ) → regionOk slot (length (first .memory)) ≡ true
+    → first .session .running ≡ false
     → History slot first acts st
     → st .session .running ≡ true
     → CutFrom image acts

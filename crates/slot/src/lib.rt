@@ -12,7 +12,7 @@ ghost use lib.ListN.{length};
 ghost use Rattle.laws.specs.Choice.{both};
 ghost use Rattle.laws.specs.Bytes.{same};
 ghost use Rattle.laws.specs.Parts.{isThere, Within};
-ghost use Rattle.slot.specs.Session.{regionOk, sessionOk, State, stateOf, closed, noTag, closedIn, said, configured};
+ghost use Rattle.slot.specs.Session.{regionOk, sessionOk, State, stateOf, closed, said, configured};
 ghost use Rattle.slot.specs.Plan.{above, misSized, sameTag, planLater, planSized, planLength, planFirst, planOf};
 ghost use Rattle.slot.specs.Act.{Act, blank, grown, done, tagKept, actOf};
 ghost use Rattle.slot.specs.History.{Fit};
@@ -351,7 +351,8 @@ fn append(slot: Slot, session: Session, memory: &mut [u8], data: &[u8]) -> Sessi
     requires { ⌜ regionOk slot (length (now memory)) ≡ true ⌝ }
     requires { ⌜ sessionOk slot session ≡ true ⌝ }
     requires { ⌜ Fit slot session (Act.append (session .place) (now «data»)) ⌝ }
-    ensures { λ r. ⌜ ((tag : List ℕ) (off : ℕ) → stateOf (now (memory .exit)) tag r ≡ done slot (Act.append off (now («data» .entry))) (stateOf (now (memory .entry)) tag session)) ⌝ }
+    ensures { λ r. ⌜ ((tag : List ℕ) (off : ℕ) → stateOf (now (memory .exit)) tag r ≡ done slot (Act.append off (now («data» .entry)))
+        (stateOf (now (memory .entry)) tag session)) ⌝ }
 {
     let at = slot.start + session.place;
     bytes::copy(data, &mut memory[at..]);
@@ -387,7 +388,8 @@ fn is_there(run: Run) -> bool
 fn start(slot: Slot, len: usize, tagged: bool, memory: &mut [u8], data: &[u8]) -> Session
     requires { ⌜ regionOk slot (length (now memory)) ≡ true ⌝ }
     requires { ⌜ length (now «data») ≤ slot .size ⌝ }
-    ensures { λ r. ⌜ ((st : State) (tag : List ℕ) → st .memory ≡ now (memory .entry) → stateOf (now (memory .exit)) tag r ≡ done slot (Act.start len tagged tag (now («data» .entry))) st) ⌝ }
+    ensures { λ r. ⌜ ((st : State) (tag : List ℕ) → st .memory ≡ now (memory .entry) → stateOf (now (memory .exit)) tag r
+        ≡ done slot (Act.start len tagged tag (now («data» .entry))) st) ⌝ }
 {
     clear(slot, memory);
     let a = slot.start;
@@ -403,7 +405,8 @@ fn start(slot: Slot, len: usize, tagged: bool, memory: &mut [u8], data: &[u8]) -
 // Sets the whole slot to 255 and ends the session, whichever it was.
 pub fn erase(slot: Slot, tag: &mut [u8; 32], memory: &mut [u8]) -> Session
     requires { ⌜ regionOk slot (length (now memory)) ≡ true ⌝ }
-    ensures { λ r. ⌜ ((s : Session) → stateOf (now (memory .exit)) (now (tag .exit)) r ≡ done slot Act.erase (stateOf (now (memory .entry)) (now (tag .entry)) s)) ⌝ }
+    ensures { λ r. ⌜ ((s : Session) → stateOf (now (memory .exit)) (now (tag .exit)) r
+        ≡ done slot Act.erase (stateOf (now (memory .entry)) (now (tag .entry)) s)) ⌝ }
 {
     clear(slot, memory);
     *tag = [0u8; 32];
@@ -425,7 +428,8 @@ pub fn carry_out(
     requires { ⌜ plan ≡ planOf slot (stateOf (now memory) (now tag) session) (now source) upload ⌝ }
     requires { ⌜ upload .start + upload .size ≤ length (now source) ⌝ }
     requires { ⌜ Within (now source) (upload .sha) ⌝ }
-    ensures { λ r. ⌜ stateOf (now (memory .exit)) (now (tag .exit)) r ≡ done slot (actOf (now (source .entry)) upload plan) (stateOf (now (memory .entry)) (now (tag .entry)) session) ⌝ }
+    ensures { λ r. ⌜ stateOf (now (memory .exit)) (now (tag .exit)) r ≡ done slot (actOf (now (source .entry)) upload plan)
+        (stateOf (now (memory .entry)) (now (tag .entry)) session) ⌝ }
 {
     let from = upload.start;
     let to = from + upload.size;

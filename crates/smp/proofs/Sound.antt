@@ -17,7 +17,6 @@ use Rattle.laws.proofs.Choice.{pick-case, pick-keep, both-yes, both-true}
 use Rattle.laws.specs.declared.Number.{Number}
 use Rattle.laws.specs.declared.Run.{Run}
 use Rattle.laws.specs.Parts.{Within}
-use Rattle.reason.specs.declared.Reason.{Reason}
 use Rattle.map.specs.declared.Kind.{Kind}
 use Rattle.map.specs.declared.Key.{Key}
 use Rattle.map.specs.Fields.{indexOf, numberIn, runIn}
@@ -28,7 +27,7 @@ use Rattle.smp.specs.declared.Command.{Command}
 use Rattle.smp.specs.declared.Request.{Request}
 use Rattle.smp.specs.declared.Reading.{Reading}
 use Rattle.smp.specs.Packet.{headerIn, sized}
-use Rattle.smp.specs.Request.{commandOf, mapped, echoWith, eraseWith, uploadWith, uploadOf, requestOf, isRequest, readRequest}
+use Rattle.smp.specs.Request.{commandOf, mapped, echoWith, eraseWith, uploadWith, requestOf, isRequest, readRequest}
 
 -- an op that passed the request's test is 0 or 2
 op-most : (n : ℕ) → not (both (not (eqb n 0)) (not (eqb n 2))) ≡ true → n ≤ 2
@@ -72,7 +71,8 @@ RequestInside s (Request.Upload u) = (u .start + u .size ≤ length s) × Within
 RequestInside s Request.Erase = Unit {0}
 
 -- of a request by its map
-mapped-inside : (s : List ℕ) (ask : List ℕ → Request) (o : Option (List ℕ)) → ((f : List ℕ) → o ≡ some f → RequestInside s (ask f)) → RequestInside s (mapped ask o)
+mapped-inside : (s : List ℕ) (ask : List ℕ → Request) (o : Option (List ℕ)) → ((f : List ℕ) → o ≡ some f → RequestInside s (ask f))
+    → RequestInside s (mapped ask o)
 unfolding RequestInside mapped
 mapped-inside s ask none each = tt
 mapped-inside s ask (some f) each = each f refl

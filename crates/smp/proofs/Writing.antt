@@ -43,7 +43,8 @@ pub room-rest : (at : ℕ) (x y : List ℕ) {r m : ℕ} → r ≡ at + length x 
 room-rest at x y e room = omega (arith, simp length-append at room)
 
 -- three lists written one after the other
-pub put-three : (at : ℕ) (x y z : List ℕ) {b₀ b₁ b₂ b₃ : List ℕ} {r₁ r₂ r₃ : ℕ} → at + length ((x ++ y) ++ z) ≤ length b₀ → Put r₁ b₁ b₀ at x → Put r₂ b₂ b₁ r₁ y → Put r₃ b₃ b₂ r₂ z → Put r₃ b₃ b₀ at ((x ++ y) ++ z)
+pub put-three : (at : ℕ) (x y z : List ℕ) {b₀ b₁ b₂ b₃ : List ℕ} {r₁ r₂ r₃ : ℕ} → at + length ((x ++ y) ++ z) ≤ length b₀ → Put r₁ b₁ b₀ at x
+    → Put r₂ b₂ b₁ r₁ y → Put r₃ b₃ b₂ r₂ z → Put r₃ b₃ b₀ at ((x ++ y) ++ z)
 put-three at x y z room p q r =
     let two = room-first at (x ++ y) z room in
     put-then two (put-then (room-first at x y two) p q) r
@@ -109,7 +110,8 @@ packet-put h hd m {d} {e₁} {e₂} end room p is w =
     }
 
 -- a reply that fits is written whole
-pub written-whole : (h : Header) (s : List ℕ) (r : Reply) (d : List ℕ) (n : ℕ) (e : List ℕ) → ltb (length d) (8 + length (replyMap s r)) ≡ false → Put n e d 0 (replyPacket h (replyMap s r)) → Written h s r d n e
+pub written-whole : (h : Header) (s : List ℕ) (r : Reply) (d : List ℕ) (n : ℕ) (e : List ℕ) → ltb (length d) (8 + length (replyMap s r)) ≡ false
+    → Put n e d 0 (replyPacket h (replyMap s r)) → Written h s r d n e
 unfolding replyBytes
 written-whole h s r d n e fits p =
     record {
@@ -118,7 +120,8 @@ written-whole h s r d n e fits p =
     }
 
 -- a reply that does not fit is rc 7 instead
-pub written-seven : (h : Header) (s : List ℕ) (r : Reply) (d : List ℕ) (n : ℕ) (e : List ℕ) → ltb (length d) (8 + length (replyMap s r)) ≡ true → Put n e d 0 (replyPacket h (replyMap s (Reply.Refused Reason.ReplyTooLong))) → Written h s r d n e
+pub written-seven : (h : Header) (s : List ℕ) (r : Reply) (d : List ℕ) (n : ℕ) (e : List ℕ) → ltb (length d) (8 + length (replyMap s r)) ≡ true
+    → Put n e d 0 (replyPacket h (replyMap s (Reply.Refused Reason.ReplyTooLong))) → Written h s r d n e
 unfolding replyBytes
 written-seven h s r d n e long p =
     record {
@@ -157,7 +160,8 @@ placed-parts s n =
     ∙ sym (append-assoc (mapOf 2) (textOf nameRc ++ unsigned 0) (textOf nameOff ++ unsigned n))
 
 -- the map of a text in the parts that its writer writes
-pub echo-parts : (s : List ℕ) (start len : ℕ) → replyMap s (Reply.Text start len) ≡ (mapOf 1 ++ textOf nameR) ++ textOf (take (start + len - start) (drop start s))
+pub echo-parts : (s : List ℕ) (start len : ℕ) → replyMap s (Reply.Text start len) ≡ (mapOf 1 ++ textOf nameR) ++ textOf
+    (take (start + len - start) (drop start s))
 unfolding replyMap
 echo-parts s start len =
     let e : start + len - start ≡ len = omega arith in
@@ -215,7 +219,8 @@ leb-not a b =
     ]
 
 -- a text fits by its length
-pub text-fits : (s : List ℕ) (start len k room : ℕ) → start + len ≤ length s → k ≡ length (headOf 0 len) → leb (11 + k + len) room ≡ not (ltb room (8 + length (replyMap s (Reply.Text start len))))
+pub text-fits : (s : List ℕ) (start len k room : ℕ) → start + len ≤ length s → k ≡ length (headOf 0 len) → leb (11 + k + len) room
+    ≡ not (ltb room (8 + length (replyMap s (Reply.Text start len))))
 text-fits s start len k room h e =
     let n : 8 + length (replyMap s (Reply.Text start len)) ≡ 11 + k + len = omega (arith, text-map s start len h) in
     rw n (leb-not (11 + k + len) room)

@@ -17,10 +17,13 @@ returns-3 : tie.Need-returns-3
 returns-3 c = sym (head-size 0 (c .before .before .before .args .n) ∙ ap suc ((form-two (c .before .before .before .args .n) (omega arith) (omega arith)) .1))
 
 returns-4 : tie.Need-returns-4
-returns-4 c = sym (head-size 0 (c .before .before .before .before .args .n) ∙ ap suc ((form-four (c .before .before .before .before .args .n) (omega arith) (omega arith)) .1))
+returns-4 c =
+    sym (head-size 0 (c .before .before .before .before .args .n) ∙ ap suc
+    ((form-four (c .before .before .before .before .args .n) (omega arith) (omega arith)) .1))
 
 returns-5 : tie.Need-returns-5
-returns-5 c = sym (head-size 0 (c .before .before .before .before .args .n) ∙ ap suc ((form-eight (c .before .before .before .before .args .n) (omega arith)) .1))
+returns-5 c =
+    sym (head-size 0 (c .before .before .before .before .args .n) ∙ ap suc ((form-eight (c .before .before .before .before .args .n) (omega arith)) .1))
 
 pub head-len-spec : {M : Type 1} → statement M
 head-len-spec = tie.close (tie.spec returns returns-2 returns-3 returns-4 returns-5)

@@ -48,7 +48,8 @@ returns-5 : tie.Need-returns-5
 returns-5 c =
     let a = c .before .before .before .before .before .before .before .before .before .args in
     let s = a .s .now in
-    sym (item-head s (a .at) (omega arith) (c .before .before .before .before .before .if2 .left) (c .before .before .before .before .if3 .left) (c .before .before .before .if4 .left)
+    sym (item-head s (a .at) (omega arith) (c .before .before .before .before .before .if2 .left) (c .before .before .before .before .if3 .left)
+    (c .before .before .before .if4 .left)
     ∙ ap (λ (h : Head). valueAfter s h) (sym (c .before .before .head-at .ensures) ∙ c .enum-told .given .1)
     ∙ value-none s)
 
@@ -63,7 +64,8 @@ returns-6 c =
     let s = a .s .now in
     c .value-after .ensures
     ∙ ap (λ (h : Head). valueAfter s h) (sym (c .before .before .head .given .1) ∙ c .before .before .before .before .head-at .ensures)
-    ∙ sym (item-head s (a .at) (omega arith) (c .before .before .before .before .before .before .before .if2 .left) (c .before .before .before .before .before .before .if3 .left) (c .before .before .before .before .before .if4 .left))
+    ∙ sym (item-head s (a .at) (omega arith) (c .before .before .before .before .before .before .before .if2 .left)
+    (c .before .before .before .before .before .before .if3 .left) (c .before .before .before .before .before .if4 .left))
 
 pub item-at-spec : {M : Type 1} → statement M
 item-at-spec =

@@ -26,7 +26,8 @@ loop-holds c =
 mul-n : tie.Need-mul-n Inv-loop μ-loop
 mul-n c =
     let l = c .before in
-    let less : l .loop .n * 256 + 0 < 2 ^ 64 = eight-bytes _ (l .loop .i + 1) (omega arith) (byte-more (l .loop .n) 0 (l .loop .i) (l .loop .inv .2) (lit< tt)) in
+    let less : l .loop .n * 256 + 0 < 2 ^ 64 =
+    eight-bytes _ (l .loop .i + 1) (omega arith) (byte-more (l .loop .n) 0 (l .loop .i) (l .loop .inv .2) (lit< tt)) in
     omega arith
 
 add-n : tie.Need-add-n Inv-loop μ-loop
@@ -44,7 +45,8 @@ add-n-2 : tie.Need-add-n-2 Inv-loop μ-loop
 add-n-2 c =
     let l = c .before .before in
     let place : ℕ = l .before .args .at + l .loop .i in
-    let more : l .loop .n * 256 + getD (l .before .args .s .now) place 0 < 256 ^ (l .loop .i + 1) = byte-more (l .loop .n) (getD (l .before .args .s .now) place 0) (l .loop .i) (l .loop .inv .2) (omega (arith, c .shared-slice-known .given place)) in
+    let more : l .loop .n * 256 + getD (l .before .args .s .now) place 0 < 256 ^ (l .loop .i + 1) =
+    byte-more (l .loop .n) (getD (l .before .args .s .now) place 0) (l .loop .i) (l .loop .inv .2) (omega (arith, c .shared-slice-known .given place)) in
     let less : l .loop .n * 256 + getD (l .before .args .s .now) place 0 < 2 ^ 64 = eight-bytes _ (l .loop .i + 1) (omega arith) more in
     omega arith
 
@@ -60,7 +62,8 @@ loop-again c =
     let a = l .before .args in (
       read-turn (l .loop .n) (l .loop .i) (a .w) (a .at) (a .s .now) (omega arith) (omega arith) ∙ l .loop .inv .0,
       omega arith,
-      byte-more (l .loop .n) (getD (a .s .now) (a .at + l .loop .i) 0) (l .loop .i) (l .loop .inv .2) (omega (arith, c .shared-slice-known .given (a .at + l .loop .i))),
+      byte-more (l .loop .n) (getD (a .s .now) (a .at + l .loop .i) 0) (l .loop .i) (l .loop .inv .2)
+          (omega (arith, c .shared-slice-known .given (a .at + l .loop .i))),
     )
 
 returns : tie.Need-returns Inv-loop μ-loop

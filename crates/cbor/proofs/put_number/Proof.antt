@@ -42,7 +42,8 @@ loop-again c =
     let l = c .before in
     let a = l .before .args in
     let i = l .loop .i in (
-      ap₂ (λ (m : List ℕ) (v : ℕ). set m (a .at + (i - 1)) (v % 256)) (l .loop .inv .0) (l .loop .inv .1) ∙ write-turn (a .buf .now) (a .at) i (a .w) (a .n) (omega arith) (omega arith) (omega arith),
+      ap₂ (λ (m : List ℕ) (v : ℕ). set m (a .at + (i - 1)) (v % 256)) (l .loop .inv .0) (l .loop .inv .1) ∙ write-turn (a .buf .now) (a .at) i (a .w)
+          (a .n) (omega arith) (omega arith) (omega arith),
       ap (λ (v : ℕ). v / 256) (l .loop .inv .1) ∙ left-turn (a .n) i (a .w) (omega arith) (omega arith),
       omega arith,
       simp length-set (l .loop .inv .3),

@@ -25,7 +25,8 @@ string-from-requires c κs = search needs
 returns-3 : tie.Need-returns-3
 returns-3 c =
     let a = c .before .before .before .before .before .args in
-    c .string-from .ensures ∙ sym (ap (λ (m : ℕ). valueAfter (a .s .now) (Head.Is m (a .n) (a .at))) (c .before .if3 .taken) ∙ value-bytes (a .s .now) (a .n) (a .at))
+    c .string-from .ensures ∙ sym (ap (λ (m : ℕ). valueAfter (a .s .now) (Head.Is m (a .n) (a .at))) (c .before .if3 .taken)
+    ∙ value-bytes (a .s .now) (a .n) (a .at))
 
 string-from-requires-2 : tie.Need-string-from-requires-2
 string-from-requires-2 c κs = search needs
@@ -33,12 +34,14 @@ string-from-requires-2 c κs = search needs
 returns-4 : tie.Need-returns-4
 returns-4 c =
     let a = c .before .before .before .before .before .before .args in
-    c .string-from2 .ensures ∙ sym (ap (λ (m : ℕ). valueAfter (a .s .now) (Head.Is m (a .n) (a .at))) (c .before .if4 .taken) ∙ value-text (a .s .now) (a .n) (a .at))
+    c .string-from2 .ensures ∙ sym (ap (λ (m : ℕ). valueAfter (a .s .now) (Head.Is m (a .n) (a .at))) (c .before .if4 .taken)
+    ∙ value-text (a .s .now) (a .n) (a .at))
 
 returns-5 : tie.Need-returns-5
 returns-5 c =
     let a = c .before .before .before .before .before .args in
-    sym (value-other (a .s .now) (a .major) (a .n) (a .at) (c .before .before .before .if1 .left) (c .before .before .if2 .left) (c .before .if3 .left) (c .if4 .left))
+    sym (value-other (a .s .now) (a .major) (a .n) (a .at) (c .before .before .before .if1 .left) (c .before .before .if2 .left)
+    (c .before .if3 .left) (c .if4 .left))
 
 pub value-after-spec : {M : Type 1} → statement M
 value-after-spec =

@@ -33,8 +33,11 @@ enum-known-request-3 c = search needs
 do-upload-requires : tie.Need-do-upload-requires
 do-upload-requires c κs =
     let a = c .before .before .before .before .before .before .before .args in
-    let g = c .before .before .before .request3 .given in
-    (c .before .before .before .before .before .before .before .pre .0, upload-inside (a .packet .now) (g .0 .0) (c .before .before .before .before .before .before .before .pre .1 ∙ ap Reading.Is (g .1)))
+    let g = c .before .before .before .request3 .given in (
+      c .before .before .before .before .before .before .before .pre .0,
+      upload-inside (a .packet .now) (g .0 .0)
+          (c .before .before .before .before .before .before .before .pre .1 ∙ ap Reading.Is (g .1)),
+    )
 
 enum-told-2 : tie.Need-enum-told-2
 enum-told-2 c = search needs
@@ -88,7 +91,8 @@ returns-4 c =
     let a = c .before .before .before .before .before .before .before .before .before .before .args in
     let st = stateOf (a .memory .now) (a .tag .now) (a .session) in
     let d = c .before .before .do-upload in
-    subst (λ (r : Request). Carried (a .slot) st (a .packet .now) r (d .result) (d .last .1 .1 .1 .0) (d .last .1 .1 .0)) (sym (c .before .before .before .before .before .before .request3 .given .1))
+    subst (λ (r : Request). Carried (a .slot) st (a .packet .now) r (d .result) (d .last .1 .1 .1 .0) (d .last .1 .1 .0))
+    (sym (c .before .before .before .before .before .before .request3 .given .1))
     (d .ensures)
 
 same-length-2 : tie.Need-same-length-2

@@ -21,8 +21,18 @@ plan-upload-requires c κs =
 carry-out-requires : tie.Need-carry-out-requires
 carry-out-requires c κs =
     let a = c .before .before .before .before .before .before .args in
-    let oks = both-true (regionOk (a .slot) (length (a .memory .now))) (sessionOk (a .slot) (a .session)) (c .before .before .before .before .before .before .pre .0) in
-    (oks .0, (oks .1, (c .before .before .plan-upload .ensures (a .memory .now), (c .before .before .before .before .before .before .pre .1 .0, c .before .before .before .before .before .before .pre .1 .1))))
+    let oks =
+    both-true (regionOk (a .slot) (length (a .memory .now))) (sessionOk (a .slot) (a .session))
+    (c .before .before .before .before .before .before .pre .0) in (
+      oks .0,
+      (
+        oks .1,
+        (
+          c .before .before .plan-upload .ensures (a .memory .now),
+          (c .before .before .before .before .before .before .pre .1 .0, c .before .before .before .before .before .before .pre .1 .1),
+        ),
+      ),
+    )
 
 reply-to-requires : tie.Need-reply-to-requires
 reply-to-requires c κs = search needs
@@ -38,7 +48,8 @@ returns c =
     let st = stateOf (a .memory .now) (a .tag .now) (a .session) in
     let done-by = c .before .before .before .carry-out in
     let after = stateOf (done-by .last .1 .1 .1 .0) (done-by .last .1 .1 .0) (done-by .result) in
-    let planned : c .before .before .before .before .before .before .plan-upload .result ≡ planOf (a .slot) st p (a .upload) = c .before .before .before .before .before .before .plan-upload .ensures (a .memory .now) in
+    let planned : c .before .before .before .before .before .before .plan-upload .result
+    ≡ planOf (a .slot) st p (a .upload) = c .before .before .before .before .before .before .plan-upload .ensures (a .memory .now) in
     record {
       state = done-by .ensures ∙ ap (λ (q : Plan). done (a .slot) (actOf p (a .upload) q) st) planned;
       reply = c .reply-to .ensures (after .memory) (after .tag) ∙ ap (λ (q : Plan). replyTo q after) planned;

@@ -16,12 +16,16 @@ possible-requires c κs = search needs
 returns : tie.Need-returns
 returns c =
     let a = c .before .before .before .before .before .args in
-    sym (handle-refused (a .slot) (stateOf (a .memory .now) (a .tag .now) (a .session)) (a .packet .now) (a .reply .now) 1 (taking-impossible (a .slot) (stateOf (a .memory .now) (a .tag .now) (a .session)) (a .packet .now) (a .reply .now) (sym (c .before .possible .ensures) ∙ not-true _ (c .if1 .taken))))
+    sym (handle-refused (a .slot) (stateOf (a .memory .now) (a .tag .now) (a .session)) (a .packet .now) (a .reply .now) 1
+    (taking-impossible (a .slot) (stateOf (a .memory .now) (a .tag .now) (a .session)) (a .packet .now) (a .reply .now)
+    (sym (c .before .possible .ensures) ∙ not-true _ (c .if1 .taken))))
 
 returns-2 : tie.Need-returns-2
 returns-2 c =
     let a = c .before .before .before .before .before .before .args in
-    sym (handle-refused (a .slot) (stateOf (a .memory .now) (a .tag .now) (a .session)) (a .packet .now) (a .reply .now) 11 (taking-short (a .slot) (stateOf (a .memory .now) (a .tag .now) (a .session)) (a .packet .now) (a .reply .now) (sym (c .before .before .possible .ensures) ∙ not-false _ (c .before .if1 .left)) (omega arith)))
+    sym (handle-refused (a .slot) (stateOf (a .memory .now) (a .tag .now) (a .session)) (a .packet .now) (a .reply .now) 11
+    (taking-short (a .slot) (stateOf (a .memory .now) (a .tag .now) (a .session)) (a .packet .now) (a .reply .now)
+    (sym (c .before .before .possible .ensures) ∙ not-false _ (c .before .if1 .left)) (omega arith)))
 
 read-request-requires : tie.Need-read-request-requires
 read-request-requires c κs = search needs
@@ -37,10 +41,16 @@ returns-3 c =
     let a = c .before .before .before .before .before .before .before .before .before .args in
     sym
     (handle-refused (a .slot) (stateOf (a .memory .now) (a .tag .now) (a .session)) (a .packet .now) (a .reply .now) 10
-    (taking-other (a .slot) (stateOf (a .memory .now) (a .tag .now) (a .session)) (a .packet .now) (a .reply .now) (sym (c .before .before .before .before .before .possible .ensures) ∙ not-false _ (c .before .before .before .before .if1 .left)) (omega arith) (sym (c .before .before .read-request .ensures) ∙ c .enum-told .given .1)))
+    (taking-other (a .slot) (stateOf (a .memory .now) (a .tag .now) (a .session)) (a .packet .now) (a .reply .now)
+    (sym (c .before .before .before .before .before .possible .ensures) ∙ not-false _ (c .before .before .before .before .if1 .left)) (omega arith)
+    (sym (c .before .before .read-request .ensures) ∙ c .enum-told .given .1)))
 
 respond-requires : tie.Need-respond-requires
-respond-requires c κs = ((sym (c .before .before .before .before .before .before .before .before .before .possible .ensures) ∙ not-false _ (c .before .before .before .before .before .before .before .before .if1 .left)), (omega arith, sym (c .before .before .before .before .before .before .read-request .ensures) ∙ c .before .before .before .before .reading .given .1))
+respond-requires c κs = (
+  (sym (c .before .before .before .before .before .before .before .before .before .possible .ensures)
+      ∙ not-false _ (c .before .before .before .before .before .before .before .before .if1 .left)),
+  (omega arith, sym (c .before .before .before .before .before .before .read-request .ensures) ∙ c .before .before .before .before .reading .given .1),
+)
 
 same-length : tie.Need-same-length
 same-length c = search needs
@@ -50,10 +60,15 @@ same-length-2 c = search needs
 
 returns-4 : tie.Need-returns-4
 returns-4 c =
-    let a = c .before .before .before .before .before .before .before .before .before .before .before .before .before .before .before .before .before .before .args in
+    let a =
+    c .before .before .before .before .before .before .before .before .before .before .before .before .before .before .before .before .before .before .args in
     c .before .before .before .before .respond .ensures
     ∙ ap (handled (a .slot) (stateOf (a .memory .now) (a .tag .now) (a .session)) (a .packet .now) (a .reply .now))
-    (sym (taking-request (a .slot) (stateOf (a .memory .now) (a .tag .now) (a .session)) (a .packet .now) (a .reply .now) _ (sym (c .before .before .before .before .before .before .before .before .before .before .before .before .before .before .possible .ensures) ∙ not-false _ (c .before .before .before .before .before .before .before .before .before .before .before .before .before .if1 .left)) (omega arith) (sym (c .before .before .before .before .before .before .before .before .before .before .before .read-request .ensures) ∙ c .before .before .before .before .before .before .before .before .before .reading .given .1)))
+    (sym (taking-request (a .slot) (stateOf (a .memory .now) (a .tag .now) (a .session)) (a .packet .now) (a .reply .now) _
+    (sym (c .before .before .before .before .before .before .before .before .before .before .before .before .before .before .possible .ensures)
+    ∙ not-false _ (c .before .before .before .before .before .before .before .before .before .before .before .before .before .if1 .left))
+    (omega arith) (sym (c .before .before .before .before .before .before .before .before .before .before .before .read-request .ensures)
+    ∙ c .before .before .before .before .before .before .before .before .before .reading .given .1)))
 
 pub handle-packet-spec : {M : Type 1} → statement M
 handle-packet-spec =

@@ -80,7 +80,8 @@ returns c =
     let k = l .inv .1 in
     come-end (a .slot) (a .memory .now) (a .run .now) (a .reply .now) (l .memory) (l .tag) (l .session) (l .reply) (l .at) k
     (run-cut (a .slot) (closedIn (a .memory .now)) (a .run .now) (a .reply .now) (k .left) (l .at) (k .calls)
-    (omega (arith, c .before .before .before .before .before .loop-test .taken)) (omega (arith, c .if1 .taken, c .before .before .before .wide .ensures .0, c .before .wide2 .ensures .0)))
+    (omega (arith, c .before .before .before .before .before .loop-test .taken))
+    (omega (arith, c .if1 .taken, c .before .before .before .wide .ensures .0, c .before .wide2 .ensures .0)))
 
 add-end : tie.Need-add-end Inv-loop μ-loop
 add-end c = omega arith
@@ -94,7 +95,9 @@ loop-less c = omega arith
 loop-again : tie.Need-loop-again Inv-loop μ-loop
 loop-again c =
     let l = c .before .before .before .before .before .before .before .before .before .before .before .before .before .before .loop in
-    let a = c .before .before .before .before .before .before .before .before .before .before .before .before .before .before .before .before .before .before .before .before .args in
+    let a =
+    c .before .before .before .before .before .before .before .before .before .before .before .before .before .before .before .before .before .before
+    .before .before .args in
     let h = c .before .before .before .before .handle-next in
     let first = c .before .before .before .before .before .before .before .before .before .before .before .wide in
     let second = c .before .before .before .before .before .before .before .before .before .wide2 in
@@ -108,9 +111,17 @@ loop-again c =
     let end = start + (first .result * 256 + second .result) in
     let length-is : end - start ≡ sizeAt run (l .at) = omega (arith, size) in
     let part : take (end - start) (drop start run) ≡ take (sizeAt run (l .at)) (drop start run) = ap (λ (n : ℕ). take n (drop start run)) length-is in
-    let two : 2 ≤ length run - l .at = omega (arith, c .before .before .before .before .before .before .before .before .before .before .before .before .before .loop-test .taken) in
-    let whole : sizeAt run (l .at) ≤ length run - (l .at + 2) = omega (arith, size, c .before .before .before .before .before .before .before .before .if1 .left) in (
-      omega (arith, l .inv .0, c .before .before .before .before .before .before .before .before .before .before .before .before .before .loop-test .taken, c .before .before .before .before .before .before .before .before .if1 .left),
+    let two : 2 ≤ length run - l .at =
+    omega (arith, c .before .before .before .before .before .before .before .before .before .before .before .before .before .loop-test .taken) in
+    let whole : sizeAt run (l .at) ≤ length run - (l .at + 2) =
+    omega (arith, size, c .before .before .before .before .before .before .before .before .if1 .left) in (
+      omega (
+        arith,
+        l .inv .0,
+        c .before .before .before .before .before .before .before .before .before .before .before .before .before .loop-test
+            .taken,
+        c .before .before .before .before .before .before .before .before .if1 .left,
+      ),
       subst (λ (n : ℕ). Come (a .slot) (a .memory .now) run (a .reply .now) memory tag (h .result) reply (l .at + 2 + n)) (sym size)
           (come-more (a .slot) (a .memory .now) run (a .reply .now) (l .memory) (l .tag) (l .session) (l .reply) (l .at) memory tag (h .result) reply
           (l .inv .1) two whole

@@ -27,14 +27,22 @@ write-reply-requires c κs =
     let st = stateOf (a .memory .now) (a .tag .now) (a .session) in
     let d = c .before .before .before .before .before .carry in
     let op : c .before .header-in .result .op < 255 =
-    omega (arith, request-sized (a .packet .now) (a .request) (c .before .before .before .before .before .before .before .before .before .before .before .pre .1 .1) .2, ap (λ (h : Header). h .op) (c .before .header-in .ensures)) in
+    omega (
+      arith,
+      request-sized (a .packet .now) (a .request)
+          (c .before .before .before .before .before .before .before .before .before .before .before .pre .1 .1) .2,
+      ap (λ (h : Header). h .op)
+          (c .before .header-in .ensures),
+    ) in
     let meant : d .result .reply ≡ replyFor (a .slot) st (done (a .slot) (actFor (a .slot) st (a .packet .now) (a .request)) st) (a .packet .now) (a .request) =
     d .ensures .reply ∙ ap (λ (x : State). replyFor (a .slot) st x (a .packet .now) (a .request)) (d .ensures .state) in (
       c .before .before .before .before .before .before .before .before .before .before .before .pre .1 .0,
       (
         op,
         subst (λ (m : Reply). Sayable (a .packet .now) m) (sym meant)
-            (reply-sayable (a .slot) st (a .packet .now) (a .request) (c .before .before .before .before .before .before .before .before .before .before .before .pre .0) (c .before .before .before .before .before .before .before .before .before .before .before .pre .1 .1)),
+            (reply-sayable (a .slot) st (a .packet .now) (a .request)
+            (c .before .before .before .before .before .before .before .before .before .before .before .pre .0)
+            (c .before .before .before .before .before .before .before .before .before .before .before .pre .1 .1)),
       ),
     )
 
@@ -54,7 +62,8 @@ returns c =
     let d = c .before .before .before .before .before .before .before .before .before .before .carry in
     let w = c .before .before .before .before .write-reply in
     let after = stateOf (d .last .1 .1 .1 .0) (d .last .1 .1 .0) (d .result .session) in
-    carried-reset (a .slot) st (a .packet .now) (a .reply .now) (a .request) (c .before .before .before .before .before .before .header-in .result) (d .result .reply) (w .result)
+    carried-reset (a .slot) st (a .packet .now) (a .reply .now) (a .request) (c .before .before .before .before .before .before .header-in .result)
+    (d .result .reply) (w .result)
     (w .last .1 .1 .1 .0) after (c .before .before .before .before .before .before .header-in .ensures) (d .ensures .state) (d .ensures .reply) (w .ensures)
     (sym (c .before .asks-reset .ensures) ∙ c .if1 .taken)
 
@@ -71,7 +80,8 @@ returns-2 c =
     let d = c .before .before .before .before .before .before .before .before .before .before .carry in
     let w = c .before .before .before .before .write-reply in
     let after = stateOf (d .last .1 .1 .1 .0) (d .last .1 .1 .0) (d .result .session) in
-    carried-plain (a .slot) st (a .packet .now) (a .reply .now) (a .request) (c .before .before .before .before .before .before .header-in .result) (d .result .reply) (w .result)
+    carried-plain (a .slot) st (a .packet .now) (a .reply .now) (a .request) (c .before .before .before .before .before .before .header-in .result)
+    (d .result .reply) (w .result)
     (w .last .1 .1 .1 .0) after (c .before .before .before .before .before .before .header-in .ensures) (d .ensures .state) (d .ensures .reply) (w .ensures)
     (sym (c .before .asks-reset .ensures) ∙ c .if1 .left)
 

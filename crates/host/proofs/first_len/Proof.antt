@@ -20,16 +20,50 @@ head-len-requires-2 : tie.Need-head-len-requires-2
 head-len-requires-2 c κs = search needs
 
 add-total-3 : tie.Need-add-total-3
-add-total-3 c = omega (arith, c .before .head-len .ensures, c .head-len2 .ensures, head-most 0 (length (c .before .before .before .before .args .«data» .now)), head-most 0 (c .before .before .before .before .args .size), c .before .before .before .before .pre .0)
+add-total-3 c =
+    omega (
+      arith,
+      c .before .head-len .ensures,
+      c .head-len2 .ensures,
+      head-most 0 (length (c .before .before .before .before .args .«data» .now)),
+      head-most 0 (c .before .before .before .before .args .size),
+      c .before .before .before .before .pre .0,
+    )
 
 returns : tie.Need-returns
-returns c = omega (arith, c .before .before .head-len .ensures, c .before .head-len2 .ensures, first-length-untagged (c .before .before .before .before .before .args .«data» .now) (c .before .before .before .before .before .args .size) (c .before .before .before .before .before .args .tag .now) (c .if1 .taken))
+returns c =
+    omega (
+      arith,
+      c .before .before .head-len .ensures,
+      c .before .head-len2 .ensures,
+      first-length-untagged
+          (c .before .before .before .before .before .args .«data» .now) (c .before .before .before .before .before .args .size)
+          (c .before .before .before .before .before .args .tag .now) (c .if1 .taken),
+    )
 
 add-result : tie.Need-add-result
-add-result c = omega (arith, c .before .before .head-len .ensures, c .before .head-len2 .ensures, head-most 0 (length (c .before .before .before .before .before .args .«data» .now)), head-most 0 (c .before .before .before .before .before .args .size), c .before .before .before .before .before .pre .0)
+add-result c =
+    omega (
+      arith,
+      c .before .before .head-len .ensures,
+      c .before .head-len2 .ensures,
+      head-most 0
+          (length (c .before .before .before .before .before .args .«data» .now)),
+      head-most 0 (c .before .before .before .before .before .args .size),
+      c .before .before .before .before .before .pre .0,
+    )
 
 returns-2 : tie.Need-returns-2
-returns-2 c = omega (arith, c .before .before .head-len .ensures, c .before .head-len2 .ensures, first-length-tagged (c .before .before .before .before .before .args .«data» .now) (c .before .before .before .before .before .args .size) (c .before .before .before .before .before .args .tag .now) (tag-size (c .before .before .before .before .before .args .tag .now) (c .before .before .before .before .before .pre .1) (c .if1 .left)))
+returns-2 c =
+    omega (
+      arith,
+      c .before .before .head-len .ensures,
+      c .before .head-len2 .ensures,
+      first-length-tagged
+          (c .before .before .before .before .before .args .«data» .now) (c .before .before .before .before .before .args .size)
+          (c .before .before .before .before .before .args .tag .now) (tag-size (c .before .before .before .before .before .args .tag .now)
+          (c .before .before .before .before .before .pre .1) (c .if1 .left)),
+    )
 
 pub first-len-spec : {M : Type 1} → statement M
 first-len-spec =

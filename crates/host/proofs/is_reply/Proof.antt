@@ -27,11 +27,26 @@ byte-at-requires c κs = search needs
 
 returns-2 : tie.Need-returns-2
 unfolding isReply
-returns-2 c = simp (← c .before .before .before .is-sized .ensures, not-false (c .before .before .before .is-sized .result) (c .before .before .if1 .left), ← c .before .byte-at .ensures, eq-eqb _ _ (c .if2 .taken), both-yes, both-no)
+returns-2 c =
+    simp (
+      ← c .before .before .before .is-sized .ensures,
+      not-false (c .before .before .before .is-sized .result) (c .before .before .if1 .left),
+      ← c .before .byte-at .ensures,
+      eq-eqb _ _ (c .if2 .taken),
+      both-yes,
+      both-no,
+    )
 
 returns-3 : tie.Need-returns-3
 unfolding isReply
-returns-3 c = simp (← c .before .before .before .is-sized .ensures, not-false (c .before .before .before .is-sized .result) (c .before .before .if1 .left), ← c .before .byte-at .ensures, ne-eqb _ _ (c .if2 .left), both-yes) (not-twice (eqb (c .before .byte-at .result) 3))
+returns-3 c =
+    simp (
+      ← c .before .before .before .is-sized .ensures,
+      not-false (c .before .before .before .is-sized .result) (c .before .before .if1 .left),
+      ← c .before .byte-at .ensures,
+      ne-eqb _ _ (c .if2 .left),
+      both-yes,
+    ) (not-twice (eqb (c .before .byte-at .result) 3))
 
 pub is-reply-spec : {M : Type 1} → statement M
 is-reply-spec = tie.close (tie.spec is-sized-requires returns byte-at-requires returns-2 returns-3)

@@ -15,7 +15,11 @@ put-text-requires c κs =
 put-string-requires : tie.Need-put-string-requires
 put-string-requires c κs =
     let a = c .before .before .before .before .before .before .before .before .args in
-    omega (arith, room-rest (a .at) (textOf (a .name .now)) (bytesOf (a .x .now)) (c .before .before .before .put-text .ensures .place) (c .before .before .before .before .before .before .before .before .pre))
+    omega (
+      arith,
+      room-rest (a .at) (textOf (a .name .now)) (bytesOf (a .x .now)) (c .before .before .before .put-text .ensures .place)
+          (c .before .before .before .before .before .before .before .before .pre),
+    )
 
 same-length : tie.Need-same-length
 same-length c = search needs
@@ -23,7 +27,9 @@ same-length c = search needs
 returns : tie.Need-returns
 returns c =
     let a = c .before .before .before .before .before .before .before .before .before .before .before .args in
-    put-then (room-first (a .at) (textOf (a .name .now)) (bytesOf (a .x .now)) (c .before .before .before .before .before .before .before .before .before .before .before .pre)) (c .before .before .before .before .before .before .put-text .ensures) (c .before .before .put-string .ensures)
+    put-then (room-first (a .at) (textOf (a .name .now)) (bytesOf (a .x .now))
+    (c .before .before .before .before .before .before .before .before .before .before .before .pre))
+    (c .before .before .before .before .before .before .put-text .ensures) (c .before .before .put-string .ensures)
 
 pub put-bytes-spec : {M : Type 1} → statement M
 put-bytes-spec = tie.close (tie.spec put-text-requires put-string-requires same-length returns)

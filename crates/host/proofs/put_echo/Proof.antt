@@ -32,7 +32,8 @@ put-text-requires c κs =
     let x : List ℕ = mapOf 1 in
     let y : List ℕ = textOf nameD in
     let z : List ℕ = textOf (a .text .now) in
-    let room : 8 + length ((x ++ y) ++ z) ≤ length (a .buf .now) = rw (echo-parts (a .text .now)) at (c .before .before .before .before .before .before .before .before .pre) in
+    let room : 8 + length ((x ++ y) ++ z) ≤ length (a .buf .now) =
+    rw (echo-parts (a .text .now)) at (c .before .before .before .before .before .before .before .before .pre) in
     let inner = room-first 8 (x ++ y) z room in
     omega (arith, room-rest 8 x y (c .before .before .before .before .put-head .ensures .place) inner)
 
@@ -42,9 +43,12 @@ put-text-requires-2 c κs =
     let x : List ℕ = mapOf 1 in
     let y : List ℕ = textOf nameD in
     let z : List ℕ = textOf (a .text .now) in
-    let room : 8 + length ((x ++ y) ++ z) ≤ length (a .buf .now) = rw (echo-parts (a .text .now)) at (c .before .before .before .before .before .before .before .before .before .before .before .before .pre) in
+    let room : 8 + length ((x ++ y) ++ z) ≤ length (a .buf .now) =
+    rw (echo-parts (a .text .now)) at (c .before .before .before .before .before .before .before .before .before .before .before .before .pre) in
     let inner = room-first 8 (x ++ y) z room in
-    let front = put-then (room-first 8 x y inner) (c .before .before .before .before .before .before .before .before .put-head .ensures) (c .before .before .before .put-text .ensures) in
+    let front =
+    put-then (room-first 8 x y inner) (c .before .before .before .before .before .before .before .before .put-head .ensures)
+    (c .before .before .before .put-text .ensures) in
     omega (arith, room-rest 8 (x ++ y) z (front .place) room)
 
 same-length : tie.Need-same-length
@@ -56,9 +60,14 @@ returns c =
     let x : List ℕ = mapOf 1 in
     let y : List ℕ = textOf nameD in
     let z : List ℕ = textOf (a .text .now) in
-    let room : 8 + length ((x ++ y) ++ z) ≤ length (a .buf .now) = rw (echo-parts (a .text .now)) at (c .before .before .before .before .before .before .before .before .before .before .before .before .before .before .before .pre) in
+    let room : 8 + length ((x ++ y) ++ z) ≤ length (a .buf .now) =
+    rw (echo-parts (a .text .now)) at
+    (c .before .before .before .before .before .before .before .before .before .before .before .before .before .before .before .pre) in
     let inner = room-first 8 (x ++ y) z room in
-    let front = put-then (room-first 8 x y inner) (c .before .before .before .before .before .before .before .before .before .before .before .put-head .ensures) (c .before .before .before .before .before .before .put-text .ensures) in
+    let front =
+    put-then (room-first 8 x y inner)
+    (c .before .before .before .before .before .before .before .before .before .before .before .put-head .ensures)
+    (c .before .before .before .before .before .before .put-text .ensures) in
     rw (echo-parts (a .text .now)) (put-then inner front (c .before .before .put-text2 .ensures))
 
 pub put-echo-spec : {M : Type 1} → statement M

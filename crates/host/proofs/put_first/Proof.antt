@@ -41,7 +41,8 @@ returns c =
     let x : List ℕ = mapOf 3 in
     let y : List ℕ = firstPairs (a .«data» .now) (a .size) in
     let is = first-untagged (a .«data» .now) (a .size) (a .tag .now) (c .before .before .before .before .before .before .before .before .if1 .taken) in
-    let room : 8 + length (x ++ y) ≤ length (a .buf .now) = rw is at (c .before .before .before .before .before .before .before .before .before .before .before .before .pre) in
+    let room : 8 + length (x ++ y) ≤ length (a .buf .now) =
+    rw is at (c .before .before .before .before .before .before .before .before .before .before .before .before .pre) in
     rw is (put-then (room-first 8 x y room) (c .before .before .before .before .before .before .put-head .ensures) (c .before .before .put-pairs .ensures))
 
 put-head-requires-2 : tie.Need-put-head-requires-2
@@ -75,10 +76,15 @@ put-bytes-requires c κs =
     let x : List ℕ = mapOf 4 in
     let y : List ℕ = firstPairs (a .«data» .now) (a .size) in
     let z : List ℕ = textOf nameSha ++ bytesOf (a .tag .now) in
-    let is = first-tagged (a .«data» .now) (a .size) (a .tag .now) (c .before .before .before .before .before .before .before .before .before .before .if1 .left) in
-    let room : 8 + length ((x ++ y) ++ z) ≤ length (a .buf .now) = rw is at (c .before .before .before .before .before .before .before .before .before .before .before .before .before .before .pre) in
+    let is =
+    first-tagged (a .«data» .now) (a .size) (a .tag .now)
+    (c .before .before .before .before .before .before .before .before .before .before .if1 .left) in
+    let room : 8 + length ((x ++ y) ++ z) ≤ length (a .buf .now) =
+    rw is at (c .before .before .before .before .before .before .before .before .before .before .before .before .before .before .pre) in
     let inner = room-first 8 (x ++ y) z room in
-    let front = put-then (room-first 8 x y inner) (c .before .before .before .before .before .before .before .before .put-head2 .ensures) (c .before .before .before .before .put-pairs2 .ensures) in
+    let front =
+    put-then (room-first 8 x y inner) (c .before .before .before .before .before .before .before .before .put-head2 .ensures)
+    (c .before .before .before .before .put-pairs2 .ensures) in
     omega (arith, room-rest 8 (x ++ y) z (front .place) room)
 
 same-length-2 : tie.Need-same-length-2
@@ -90,10 +96,16 @@ returns-2 c =
     let x : List ℕ = mapOf 4 in
     let y : List ℕ = firstPairs (a .«data» .now) (a .size) in
     let z : List ℕ = textOf nameSha ++ bytesOf (a .tag .now) in
-    let is = first-tagged (a .«data» .now) (a .size) (a .tag .now) (c .before .before .before .before .before .before .before .before .before .before .before .before .before .if1 .left) in
-    let room : 8 + length ((x ++ y) ++ z) ≤ length (a .buf .now) = rw is at (c .before .before .before .before .before .before .before .before .before .before .before .before .before .before .before .before .before .pre) in
+    let is =
+    first-tagged (a .«data» .now) (a .size) (a .tag .now)
+    (c .before .before .before .before .before .before .before .before .before .before .before .before .before .if1 .left) in
+    let room : 8 + length ((x ++ y) ++ z) ≤ length (a .buf .now) =
+    rw is at (c .before .before .before .before .before .before .before .before .before .before .before .before .before .before .before .before .before .pre) in
     let inner = room-first 8 (x ++ y) z room in
-    let front = put-then (room-first 8 x y inner) (c .before .before .before .before .before .before .before .before .before .before .before .put-head2 .ensures) (c .before .before .before .before .before .before .before .put-pairs2 .ensures) in
+    let front =
+    put-then (room-first 8 x y inner)
+    (c .before .before .before .before .before .before .before .before .before .before .before .put-head2 .ensures)
+    (c .before .before .before .before .before .before .before .put-pairs2 .ensures) in
     rw is (put-then inner front (c .before .before .put-bytes .ensures))
 
 pub put-first-spec : {M : Type 1} → statement M

@@ -32,7 +32,8 @@ put-bytes-requires c κs =
     let x : List ℕ = mapOf 2 in
     let y : List ℕ = textOf nameData ++ bytesOf (a .«data» .now) in
     let z : List ℕ = textOf nameOff ++ unsigned (a .off) in
-    let room : 8 + length ((x ++ y) ++ z) ≤ length (a .buf .now) = rw (later-parts (a .«data» .now) (a .off)) at (c .before .before .before .before .before .before .before .before .pre) in
+    let room : 8 + length ((x ++ y) ++ z) ≤ length (a .buf .now) =
+    rw (later-parts (a .«data» .now) (a .off)) at (c .before .before .before .before .before .before .before .before .pre) in
     let inner = room-first 8 (x ++ y) z room in
     omega (arith, room-rest 8 x y (c .before .before .before .before .put-head .ensures .place) inner)
 
@@ -45,9 +46,13 @@ put-number-requires c κs =
     let x : List ℕ = mapOf 2 in
     let y : List ℕ = textOf nameData ++ bytesOf (a .«data» .now) in
     let z : List ℕ = textOf nameOff ++ unsigned (a .off) in
-    let room : 8 + length ((x ++ y) ++ z) ≤ length (a .buf .now) = rw (later-parts (a .«data» .now) (a .off)) at (c .before .before .before .before .before .before .before .before .before .before .before .before .before .pre) in
+    let room : 8 + length ((x ++ y) ++ z) ≤ length (a .buf .now) =
+    rw (later-parts (a .«data» .now) (a .off)) at
+    (c .before .before .before .before .before .before .before .before .before .before .before .before .before .pre) in
     let inner = room-first 8 (x ++ y) z room in
-    let front = put-then (room-first 8 x y inner) (c .before .before .before .before .before .before .before .before .before .put-head .ensures) (c .before .before .before .before .put-bytes .ensures) in
+    let front =
+    put-then (room-first 8 x y inner) (c .before .before .before .before .before .before .before .before .before .put-head .ensures)
+    (c .before .before .before .before .put-bytes .ensures) in
     omega (arith, room-rest 8 (x ++ y) z (front .place) room)
 
 same-length : tie.Need-same-length
@@ -59,9 +64,14 @@ returns c =
     let x : List ℕ = mapOf 2 in
     let y : List ℕ = textOf nameData ++ bytesOf (a .«data» .now) in
     let z : List ℕ = textOf nameOff ++ unsigned (a .off) in
-    let room : 8 + length ((x ++ y) ++ z) ≤ length (a .buf .now) = rw (later-parts (a .«data» .now) (a .off)) at (c .before .before .before .before .before .before .before .before .before .before .before .before .before .before .before .before .pre) in
+    let room : 8 + length ((x ++ y) ++ z) ≤ length (a .buf .now) =
+    rw (later-parts (a .«data» .now) (a .off)) at
+    (c .before .before .before .before .before .before .before .before .before .before .before .before .before .before .before .before .pre) in
     let inner = room-first 8 (x ++ y) z room in
-    let front = put-then (room-first 8 x y inner) (c .before .before .before .before .before .before .before .before .before .before .before .before .put-head .ensures) (c .before .before .before .before .before .before .before .put-bytes .ensures) in
+    let front =
+    put-then (room-first 8 x y inner)
+    (c .before .before .before .before .before .before .before .before .before .before .before .before .put-head .ensures)
+    (c .before .before .before .before .before .before .before .put-bytes .ensures) in
     rw (later-parts (a .«data» .now) (a .off)) (put-then inner front (c .before .before .put-number .ensures))
 
 pub put-later-spec : {M : Type 1} → statement M

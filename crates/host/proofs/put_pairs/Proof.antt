@@ -46,9 +46,12 @@ put-number-requires-2 c κs =
     let x : List ℕ = textOf nameData ++ bytesOf (a .«data» .now) in
     let y : List ℕ = textOf nameLen ++ unsigned (a .size) in
     let z : List ℕ = textOf nameOff ++ unsigned 0 in
-    let room : (a .at) + length ((x ++ y) ++ z) ≤ length (a .buf .now) = c .before .before .before .before .before .before .before .before .before .before .before .before .before .before .pre in
+    let room : (a .at) + length ((x ++ y) ++ z) ≤ length (a .buf .now) =
+    c .before .before .before .before .before .before .before .before .before .before .before .before .before .before .pre in
     let inner = room-first (a .at) (x ++ y) z room in
-    let front = put-then (room-first (a .at) x y inner) (c .before .before .before .before .before .before .before .before .before .put-bytes .ensures) (c .before .before .before .before .put-number .ensures) in
+    let front =
+    put-then (room-first (a .at) x y inner) (c .before .before .before .before .before .before .before .before .before .put-bytes .ensures)
+    (c .before .before .before .before .put-number .ensures) in
     omega (arith, room-rest (a .at) (x ++ y) z (front .place) room)
 
 same-length : tie.Need-same-length
@@ -60,9 +63,13 @@ returns c =
     let x : List ℕ = textOf nameData ++ bytesOf (a .«data» .now) in
     let y : List ℕ = textOf nameLen ++ unsigned (a .size) in
     let z : List ℕ = textOf nameOff ++ unsigned 0 in
-    let room : (a .at) + length ((x ++ y) ++ z) ≤ length (a .buf .now) = c .before .before .before .before .before .before .before .before .before .before .before .before .before .before .before .before .before .pre in
+    let room : (a .at) + length ((x ++ y) ++ z) ≤ length (a .buf .now) =
+    c .before .before .before .before .before .before .before .before .before .before .before .before .before .before .before .before .before .pre in
     let inner = room-first (a .at) (x ++ y) z room in
-    let front = put-then (room-first (a .at) x y inner) (c .before .before .before .before .before .before .before .before .before .before .before .before .put-bytes .ensures) (c .before .before .before .before .before .before .before .put-number .ensures) in
+    let front =
+    put-then (room-first (a .at) x y inner)
+    (c .before .before .before .before .before .before .before .before .before .before .before .before .put-bytes .ensures)
+    (c .before .before .before .before .before .before .before .put-number .ensures) in
     put-then inner front (c .before .before .put-number2 .ensures)
 
 pub put-pairs-spec : {M : Type 1} → statement M

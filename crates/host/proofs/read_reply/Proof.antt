@@ -34,9 +34,11 @@ returns-3 : tie.Need-returns-3
 unfolding mapRead readReply
 returns-3 c =
     let a = c .before .before .before .before .before .before .before .before .args in
-    let kind : isReply (a .s .now) ≡ true = sym (c .before .before .before .before .before .before .is-reply .ensures) ∙ not-false _ (c .before .before .before .before .before .if1 .left) in
+    let kind : isReply (a .s .now) ≡ true =
+    sym (c .before .before .before .before .before .before .is-reply .ensures) ∙ not-false _ (c .before .before .before .before .before .if1 .left) in
     simp (kind, pick-yes)
-    (c .values-of .ensures ∙ sym (ap (mapRead (a .s .now)) (read-map (c .before .before .before .map-from .ensures) (not-false _ (c .before .before .if2 .left)))))
+    (c .values-of .ensures ∙ sym (ap (mapRead (a .s .now)) (read-map (c .before .before .before .map-from .ensures)
+    (not-false _ (c .before .before .if2 .left)))))
 
 pub read-reply-spec : {M : Type 1} → statement M
 read-reply-spec =

@@ -18,15 +18,28 @@ is-sendable-requires c κs = search needs
 returns : tie.Need-returns
 returns c =
     let a = c .before .before .before .before .before .before .args in
-    request-refused 1 (a .sequence) 1 (firstMap (a .«data» .now) (a .size) (a .tag .now)) (a .out .now) _ (c .before .before .first-len .ensures) (sym (c .before .is-sendable .ensures) ∙ not-true (c .before .is-sendable .result) (c .if1 .taken))
+    request-refused 1 (a .sequence) 1 (firstMap (a .«data» .now) (a .size) (a .tag .now)) (a .out .now) _ (c .before .before .first-len .ensures)
+    (sym (c .before .is-sendable .ensures) ∙ not-true (c .before .is-sendable .result) (c .if1 .taken))
 
 put-first-requires : tie.Need-put-first-requires
 put-first-requires c κs =
     let a = c .before .before .before .before .before .before .before .args in
-    omega (arith, c .before .before .before .first-len .ensures, sendable-fits _ _ (sym (c .before .before .is-sendable .ensures) ∙ not-false (c .before .before .is-sendable .result) (c .before .if1 .left)))
+    omega (
+      arith,
+      c .before .before .before .first-len .ensures,
+      sendable-fits _ _ (sym (c .before .before .is-sendable .ensures)
+          ∙ not-false (c .before .before .is-sendable .result) (c .before .if1 .left)),
+    )
 
 put-front-requires : tie.Need-put-front-requires
-put-front-requires c κs = omega (arith, c .before .before .before .put-first .ensures .place, sendable-fits _ _ (sym (c .before .before .before .before .before .before .is-sendable .ensures) ∙ not-false (c .before .before .before .before .before .before .is-sendable .result) (c .before .before .before .before .before .if1 .left)))
+put-front-requires c κs =
+    omega (
+      arith,
+      c .before .before .before .put-first .ensures .place,
+      sendable-fits _ _
+          (sym (c .before .before .before .before .before .before .is-sendable .ensures)
+          ∙ not-false (c .before .before .before .before .before .before .is-sendable .result) (c .before .before .before .before .before .if1 .left)),
+    )
 
 same-length : tie.Need-same-length
 same-length c = search needs
@@ -34,7 +47,12 @@ same-length c = search needs
 returns-2 : tie.Need-returns-2
 returns-2 c =
     let a = c .before .before .before .before .before .before .before .before .before .before .before .before .before .before .args in
-    request-sent 1 (a .sequence) 1 (firstMap (a .«data» .now) (a .size) (a .tag .now)) _ _ (c .before .before .before .before .before .before .before .before .before .before .first-len .ensures) (sym (c .before .before .before .before .before .before .before .before .before .is-sendable .ensures) ∙ not-false (c .before .before .before .before .before .before .before .before .before .is-sendable .result) (c .before .before .before .before .before .before .before .before .if1 .left)) (c .before .before .before .before .before .before .put-first .ensures) (c .before .before .put-front .ensures)
+    request-sent 1 (a .sequence) 1 (firstMap (a .«data» .now) (a .size) (a .tag .now)) _ _
+    (c .before .before .before .before .before .before .before .before .before .before .first-len .ensures)
+    (sym (c .before .before .before .before .before .before .before .before .before .is-sendable .ensures)
+    ∙ not-false (c .before .before .before .before .before .before .before .before .before .is-sendable .result)
+    (c .before .before .before .before .before .before .before .before .if1 .left))
+    (c .before .before .before .before .before .before .put-first .ensures) (c .before .before .put-front .ensures)
 
 pub send-first-spec : {M : Type 1} → statement M
 send-first-spec =

@@ -23,7 +23,15 @@ head-len-requires-2 : tie.Need-head-len-requires-2
 head-len-requires-2 c κs = search needs
 
 add-total-3 : tie.Need-add-total-3
-add-total-3 c = omega (arith, c .before .head-len .ensures, head-most 0 (length (c .before .before .before .before .args .«data» .now)), c .head-len2 .ensures, head-most 0 (c .before .before .before .before .args .off), c .before .before .before .before .good)
+add-total-3 c =
+    omega (
+      arith,
+      c .before .head-len .ensures,
+      head-most 0 (length (c .before .before .before .before .args .«data» .now)),
+      c .head-len2 .ensures,
+      head-most 0 (c .before .before .before .before .args .off),
+      c .before .before .before .before .good,
+    )
 
 is-sendable-requires : tie.Need-is-sendable-requires
 is-sendable-requires c κs = search needs
@@ -31,15 +39,31 @@ is-sendable-requires c κs = search needs
 returns : tie.Need-returns
 returns c =
     let a = c .before .before .before .before .before .before .args in
-    request-refused 1 (a .sequence) 1 (laterMap (a .«data» .now) (a .off)) (a .out .now) _ (omega (arith, later-length (a .«data» .now) (a .off), c .before .before .before .head-len .ensures, c .before .before .head-len2 .ensures)) (sym (c .before .is-sendable .ensures) ∙ not-true (c .before .is-sendable .result) (c .if1 .taken))
+    request-refused 1 (a .sequence) 1 (laterMap (a .«data» .now) (a .off)) (a .out .now) _
+    (omega (arith, later-length (a .«data» .now) (a .off), c .before .before .before .head-len .ensures, c .before .before .head-len2 .ensures))
+    (sym (c .before .is-sendable .ensures) ∙ not-true (c .before .is-sendable .result) (c .if1 .taken))
 
 put-later-requires : tie.Need-put-later-requires
 put-later-requires c κs =
     let a = c .before .before .before .before .before .before .before .args in
-    omega (arith, later-length (a .«data» .now) (a .off), c .before .before .before .before .head-len .ensures, c .before .before .before .head-len2 .ensures, sendable-fits _ _ (sym (c .before .before .is-sendable .ensures) ∙ not-false (c .before .before .is-sendable .result) (c .before .if1 .left)))
+    omega (
+      arith,
+      later-length (a .«data» .now) (a .off),
+      c .before .before .before .before .head-len .ensures,
+      c .before .before .before .head-len2 .ensures,
+      sendable-fits _ _ (sym (c .before .before .is-sendable .ensures)
+          ∙ not-false (c .before .before .is-sendable .result) (c .before .if1 .left)),
+    )
 
 put-front-requires : tie.Need-put-front-requires
-put-front-requires c κs = omega (arith, c .before .before .before .put-later .ensures .place, sendable-fits _ _ (sym (c .before .before .before .before .before .before .is-sendable .ensures) ∙ not-false (c .before .before .before .before .before .before .is-sendable .result) (c .before .before .before .before .before .if1 .left)))
+put-front-requires c κs =
+    omega (
+      arith,
+      c .before .before .before .put-later .ensures .place,
+      sendable-fits _ _
+          (sym (c .before .before .before .before .before .before .is-sendable .ensures)
+          ∙ not-false (c .before .before .before .before .before .before .is-sendable .result) (c .before .before .before .before .before .if1 .left)),
+    )
 
 same-length : tie.Need-same-length
 same-length c = search needs
@@ -47,7 +71,17 @@ same-length c = search needs
 returns-2 : tie.Need-returns-2
 returns-2 c =
     let a = c .before .before .before .before .before .before .before .before .before .before .before .before .before .before .args in
-    request-sent 1 (a .sequence) 1 (laterMap (a .«data» .now) (a .off)) _ _ (omega (arith, later-length (a .«data» .now) (a .off), c .before .before .before .before .before .before .before .before .before .before .before .head-len .ensures, c .before .before .before .before .before .before .before .before .before .before .head-len2 .ensures)) (sym (c .before .before .before .before .before .before .before .before .before .is-sendable .ensures) ∙ not-false (c .before .before .before .before .before .before .before .before .before .is-sendable .result) (c .before .before .before .before .before .before .before .before .if1 .left)) (c .before .before .before .before .before .before .put-later .ensures) (c .before .before .put-front .ensures)
+    request-sent 1 (a .sequence) 1 (laterMap (a .«data» .now) (a .off)) _ _
+    (omega (
+      arith,
+      later-length (a .«data» .now) (a .off),
+      c .before .before .before .before .before .before .before .before .before .before .before .head-len .ensures,
+      c .before .before .before .before .before .before .before .before .before .before .head-len2 .ensures,
+    ))
+    (sym (c .before .before .before .before .before .before .before .before .before .is-sendable .ensures)
+    ∙ not-false (c .before .before .before .before .before .before .before .before .before .is-sendable .result)
+    (c .before .before .before .before .before .before .before .before .if1 .left))
+    (c .before .before .before .before .before .before .put-later .ensures) (c .before .before .put-front .ensures)
 
 pub send-later-spec : {M : Type 1} → statement M
 send-later-spec =

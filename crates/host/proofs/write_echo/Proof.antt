@@ -26,17 +26,32 @@ returns : tie.Need-returns
 unfolding writeEcho
 returns c =
     let a = c .before .before .before .before .before .args in
-    request-refused 0 (a .sequence) 0 (echoMap (a .text .now)) (a .out .now) _ (omega (arith, echo-length (a .text .now), c .before .before .head-len .ensures)) (sym (c .before .is-sendable .ensures) ∙ not-true (c .before .is-sendable .result) (c .if1 .taken))
+    request-refused 0 (a .sequence) 0 (echoMap (a .text .now)) (a .out .now) _
+    (omega (arith, echo-length (a .text .now), c .before .before .head-len .ensures))
+    (sym (c .before .is-sendable .ensures) ∙ not-true (c .before .is-sendable .result) (c .if1 .taken))
 
 put-echo-requires : tie.Need-put-echo-requires
 unfolding writeEcho
 put-echo-requires c κs =
     let a = c .before .before .before .before .before .before .args in
-    omega (arith, echo-length (a .text .now), c .before .before .before .head-len .ensures, sendable-fits _ _ (sym (c .before .before .is-sendable .ensures) ∙ not-false (c .before .before .is-sendable .result) (c .before .if1 .left)))
+    omega (
+      arith,
+      echo-length (a .text .now),
+      c .before .before .before .head-len .ensures,
+      sendable-fits _ _
+          (sym (c .before .before .is-sendable .ensures) ∙ not-false (c .before .before .is-sendable .result) (c .before .if1 .left)),
+    )
 
 put-front-requires : tie.Need-put-front-requires
 unfolding writeEcho
-put-front-requires c κs = omega (arith, c .before .before .before .put-echo .ensures .place, sendable-fits _ _ (sym (c .before .before .before .before .before .before .is-sendable .ensures) ∙ not-false (c .before .before .before .before .before .before .is-sendable .result) (c .before .before .before .before .before .if1 .left)))
+put-front-requires c κs =
+    omega (
+      arith,
+      c .before .before .before .put-echo .ensures .place,
+      sendable-fits _ _
+          (sym (c .before .before .before .before .before .before .is-sendable .ensures)
+          ∙ not-false (c .before .before .before .before .before .before .is-sendable .result) (c .before .before .before .before .before .if1 .left)),
+    )
 
 same-length : tie.Need-same-length
 same-length c = search needs
@@ -45,7 +60,12 @@ returns-2 : tie.Need-returns-2
 unfolding writeEcho
 returns-2 c =
     let a = c .before .before .before .before .before .before .before .before .before .before .before .before .before .args in
-    request-sent 0 (a .sequence) 0 (echoMap (a .text .now)) _ _ (omega (arith, echo-length (a .text .now), c .before .before .before .before .before .before .before .before .before .before .head-len .ensures)) (sym (c .before .before .before .before .before .before .before .before .before .is-sendable .ensures) ∙ not-false (c .before .before .before .before .before .before .before .before .before .is-sendable .result) (c .before .before .before .before .before .before .before .before .if1 .left)) (c .before .before .before .before .before .before .put-echo .ensures) (c .before .before .put-front .ensures)
+    request-sent 0 (a .sequence) 0 (echoMap (a .text .now)) _ _ (omega
+    (arith, echo-length (a .text .now), c .before .before .before .before .before .before .before .before .before .before .head-len .ensures))
+    (sym (c .before .before .before .before .before .before .before .before .before .is-sendable .ensures)
+    ∙ not-false (c .before .before .before .before .before .before .before .before .before .is-sendable .result)
+    (c .before .before .before .before .before .before .before .before .if1 .left))
+    (c .before .before .before .before .before .before .put-echo .ensures) (c .before .before .put-front .ensures)
 
 pub write-echo-spec : {M : Type 1} → statement M
 write-echo-spec =

@@ -17,13 +17,29 @@ is-sendable-requires c κs = search needs
 returns : tie.Need-returns
 returns c =
     let a = c .before .before .before .args in
-    request-refused (a .group) (a .sequence) 5 (mapOf 0) (a .out .now) 9 (omega (arith, head-tiny 5 0 (lit< tt))) (sym (c .before .is-sendable .ensures) ∙ not-true (c .before .is-sendable .result) (c .if1 .taken))
+    request-refused (a .group) (a .sequence) 5 (mapOf 0) (a .out .now) 9 (omega (arith, head-tiny 5 0 (lit< tt)))
+    (sym (c .before .is-sendable .ensures) ∙ not-true (c .before .is-sendable .result) (c .if1 .taken))
 
 put-head-requires : tie.Need-put-head-requires
-put-head-requires c κs = (lit< tt, omega (arith, head-tiny 5 0 (lit< tt), sendable-fits 9 _ (sym (c .before .before .is-sendable .ensures) ∙ not-false (c .before .before .is-sendable .result) (c .before .if1 .left))))
+put-head-requires c κs = (
+  lit< tt,
+  omega (
+    arith,
+    head-tiny 5 0 (lit< tt),
+    sendable-fits 9 _ (sym (c .before .before .is-sendable .ensures)
+        ∙ not-false (c .before .before .is-sendable .result) (c .before .if1 .left)),
+  ),
+)
 
 put-front-requires : tie.Need-put-front-requires
-put-front-requires c κs = omega (arith, c .before .before .before .put-head .ensures .place, sendable-fits 9 _ (sym (c .before .before .before .before .before .before .is-sendable .ensures) ∙ not-false (c .before .before .before .before .before .before .is-sendable .result) (c .before .before .before .before .before .if1 .left)))
+put-front-requires c κs =
+    omega (
+      arith,
+      c .before .before .before .put-head .ensures .place,
+      sendable-fits 9 _
+          (sym (c .before .before .before .before .before .before .is-sendable .ensures)
+          ∙ not-false (c .before .before .before .before .before .before .is-sendable .result) (c .before .before .before .before .before .if1 .left)),
+    )
 
 same-length : tie.Need-same-length
 same-length c = search needs
@@ -31,7 +47,11 @@ same-length c = search needs
 returns-2 : tie.Need-returns-2
 returns-2 c =
     let a = c .before .before .before .before .before .before .before .before .before .before .before .args in
-    request-sent (a .group) (a .sequence) 5 (mapOf 0) 9 _ (omega (arith, head-tiny 5 0 (lit< tt))) (sym (c .before .before .before .before .before .before .before .before .before .is-sendable .ensures) ∙ not-false (c .before .before .before .before .before .before .before .before .before .is-sendable .result) (c .before .before .before .before .before .before .before .before .if1 .left)) (c .before .before .before .before .before .before .put-head .ensures) (c .before .before .put-front .ensures)
+    request-sent (a .group) (a .sequence) 5 (mapOf 0) 9 _ (omega (arith, head-tiny 5 0 (lit< tt)))
+    (sym (c .before .before .before .before .before .before .before .before .before .is-sendable .ensures)
+    ∙ not-false (c .before .before .before .before .before .before .before .before .before .is-sendable .result)
+    (c .before .before .before .before .before .before .before .before .if1 .left))
+    (c .before .before .before .before .before .before .put-head .ensures) (c .before .before .put-front .ensures)
 
 pub write-empty-spec : {M : Type 1} → statement M
 write-empty-spec =

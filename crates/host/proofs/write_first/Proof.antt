@@ -26,7 +26,17 @@ is-mis-sized-requires c κs = search needs
 
 returns-4 : tie.Need-returns-4
 unfolding writeFirst
-returns-4 c = simp (ne-eqb _ _ (c .before .before .before .before .if1 .left), le-ltb _ _ (c .before .before .before .if2 .left), le-ltb _ _ (c .before .before .if3 .left), ← c .before .is-mis-sized .ensures, c .if4 .taken, pick-yes, pick-no)
+returns-4 c =
+    simp (
+      ne-eqb _ _ (c .before .before .before .before .if1 .left),
+      le-ltb _ _ (c .before .before .before .if2 .left),
+      le-ltb _ _
+          (c .before .before .if3 .left),
+      ← c .before .is-mis-sized .ensures,
+      c .if4 .taken,
+      pick-yes,
+      pick-no,
+    )
 
 send-first-requires : tie.Need-send-first-requires
 send-first-requires c κs = (omega arith, sym (c .before .before .is-mis-sized .ensures) ∙ c .before .if4 .left)
@@ -36,7 +46,17 @@ same-length c = search needs
 
 returns-5 : tie.Need-returns-5
 unfolding writeFirst
-returns-5 c = simp (ne-eqb _ _ (c .before .before .before .before .before .before .before .before .if1 .left), le-ltb _ _ (c .before .before .before .before .before .before .before .if2 .left), le-ltb _ _ (c .before .before .before .before .before .before .if3 .left), ← c .before .before .before .before .before .is-mis-sized .ensures, c .before .before .before .before .if4 .left, pick-no) (c .before .before .send-first .ensures)
+returns-5 c =
+    simp (
+      ne-eqb _ _ (c .before .before .before .before .before .before .before .before .if1 .left),
+      le-ltb _ _
+          (c .before .before .before .before .before .before .before .if2 .left),
+      le-ltb _ _ (c .before .before .before .before .before .before .if3 .left),
+      ← c .before .before .before .before .before .is-mis-sized .ensures,
+      c .before .before .before .before .if4 .left,
+      pick-no,
+    )
+    (c .before .before .send-first .ensures)
 
 pub write-first-spec : {M : Type 1} → statement M
 write-first-spec =

@@ -23,7 +23,16 @@ same-length c = search needs
 
 returns-3 : tie.Need-returns-3
 unfolding writeUpload
-returns-3 c = simp (le-ltb _ _ (c .before .before .before .before .before .before .if1 .left), ne-eqb _ _ (c .before .before .before .before .before .if2 .left), eq-eqb _ _ (c .before .before .before .before .if3 .taken), pick-yes, pick-no) (c .before .before .write-first .ensures)
+returns-3 c =
+    simp (
+      le-ltb _ _ (c .before .before .before .before .before .before .if1 .left),
+      ne-eqb _ _
+          (c .before .before .before .before .before .if2 .left),
+      eq-eqb _ _ (c .before .before .before .before .if3 .taken),
+      pick-yes,
+      pick-no,
+    )
+    (c .before .before .write-first .ensures)
 
 send-later-requires : tie.Need-send-later-requires
 send-later-requires c κs = search needs
@@ -33,7 +42,15 @@ same-length-2 c = search needs
 
 returns-4 : tie.Need-returns-4
 unfolding writeUpload
-returns-4 c = simp (le-ltb _ _ (c .before .before .before .before .before .before .if1 .left), ne-eqb _ _ (c .before .before .before .before .before .if2 .left), ne-eqb _ _ (c .before .before .before .before .if3 .left), pick-no) (c .before .before .send-later .ensures)
+returns-4 c =
+    simp (
+      le-ltb _ _ (c .before .before .before .before .before .before .if1 .left),
+      ne-eqb _ _
+          (c .before .before .before .before .before .if2 .left),
+      ne-eqb _ _ (c .before .before .before .before .if3 .left),
+      pick-no,
+    )
+    (c .before .before .send-later .ensures)
 
 pub write-upload-spec : {M : Type 1} → statement M
 write-upload-spec =

@@ -32,7 +32,8 @@ returns-2 : tie.Need-returns-2
 returns-2 c =
     let a = c .before .before .before .before .before .args in
     let known : typeFor (a .k) ≡ 99 → ⊥ = λ h. c .before .before .before .if1 .left (c .before .before .before .before .type-for .ensures ∙ h) in
-    let taken : getD (a .f .now) (placeOf (a .k)) 0 ≡ 0 → ⊥ = λ h. c .if2 .taken (ap (λ (n : ℕ). getD (a .f .now) n 0) (c .before .before .place-of .ensures .0) ∙ h) in
+    let taken : getD (a .f .now) (placeOf (a .k)) 0 ≡ 0 → ⊥ =
+    λ h. c .if2 .taken (ap (λ (n : ℕ). getD (a .f .now) n 0) (c .before .before .place-of .ensures .0) ∙ h) in
     finds-bad (enter-twice (a .k) (a .v) (a .next) (a .f .now) known taken)
 
 type-of-requires : tie.Need-type-of-requires
@@ -41,9 +42,12 @@ type-of-requires c κs = search needs
 returns-3 : tie.Need-returns-3
 returns-3 c =
     let a = c .before .before .before .before .before .before .before .args in
-    let known : typeFor (a .k) ≡ 99 → ⊥ = λ h. c .before .before .before .before .before .if1 .left (c .before .before .before .before .before .before .type-for .ensures ∙ h) in
-    let free : getD (a .f .now) (placeOf (a .k)) 0 ≡ 0 = sym (ap (λ (n : ℕ). getD (a .f .now) n 0) (c .before .before .before .before .place-of .ensures .0)) ∙ c .before .before .if2 .left in
-    let other : typeOf (a .v) ≡ typeFor (a .k) → ⊥ = λ h. c .if3 .taken (c .before .type-of .ensures ∙ h ∙ sym (c .before .before .before .before .before .before .type-for .ensures)) in
+    let known : typeFor (a .k) ≡ 99 → ⊥ =
+    λ h. c .before .before .before .before .before .if1 .left (c .before .before .before .before .before .before .type-for .ensures ∙ h) in
+    let free : getD (a .f .now) (placeOf (a .k)) 0 ≡ 0 =
+    sym (ap (λ (n : ℕ). getD (a .f .now) n 0) (c .before .before .before .before .place-of .ensures .0)) ∙ c .before .before .if2 .left in
+    let other : typeOf (a .v) ≡ typeFor (a .k) → ⊥ =
+    λ h. c .if3 .taken (c .before .type-of .ensures ∙ h ∙ sym (c .before .before .before .before .before .before .type-for .ensures)) in
     finds-bad (enter-type (a .k) (a .v) (a .next) (a .f .now) known free other)
 
 store-requires : tie.Need-store-requires
@@ -52,9 +56,15 @@ store-requires c κs = search needs
 returns-4 : tie.Need-returns-4
 returns-4 c =
     let a = c .before .before .before .before .before .before .before .before .before .args in
-    let known : typeFor (a .k) ≡ 99 → ⊥ = λ h. c .before .before .before .before .before .before .before .if1 .left (c .before .before .before .before .before .before .before .before .type-for .ensures ∙ h) in
-    let free : getD (a .f .now) (placeOf (a .k)) 0 ≡ 0 = sym (ap (λ (n : ℕ). getD (a .f .now) n 0) (c .before .before .before .before .before .before .place-of .ensures .0)) ∙ c .before .before .before .before .if2 .left in
-    let type : typeOf (a .v) ≡ typeFor (a .k) = sym (c .before .before .before .type-of .ensures) ∙ c .before .before .if3 .left ∙ c .before .before .before .before .before .before .before .before .type-for .ensures in
+    let known : typeFor (a .k) ≡ 99 → ⊥ =
+    λ h. c .before .before .before .before .before .before .before .if1 .left
+    (c .before .before .before .before .before .before .before .before .type-for .ensures ∙ h) in
+    let free : getD (a .f .now) (placeOf (a .k)) 0 ≡ 0 =
+    sym (ap (λ (n : ℕ). getD (a .f .now) n 0) (c .before .before .before .before .before .before .place-of .ensures .0))
+    ∙ c .before .before .before .before .if2 .left in
+    let type : typeOf (a .v) ≡ typeFor (a .k) =
+    sym (c .before .before .before .type-of .ensures) ∙ c .before .before .if3 .left
+    ∙ c .before .before .before .before .before .before .before .before .type-for .ensures in
     finds-to (a .next) (enter-field (a .k) (a .v) (a .next) (a .f .now) known free type ∙ ap (upTo (a .next)) (sym (c .store .ensures)))
 
 pub enter-spec : {M : Type 1} → statement M

@@ -29,13 +29,16 @@ returns-2 : tie.Need-returns-2
 returns-2 c =
     let a = c .before .before .before .before .before .before .args in
     let w : mapAt (a .kind) (a .s .now) (a .from) nothing ≡ malformed =
-    ap (λ (f : List ℕ). mapAt (a .kind) (a .s .now) (a .from) f) (sym (c .before .before .before .before .before .before .pre)) ∙ found-bad (c .before .before .map-at .ensures) (c .enum-told .given .1) in
+    ap (λ (f : List ℕ). mapAt (a .kind) (a .s .now) (a .from) f) (sym (c .before .before .before .before .before .before .pre))
+    ∙ found-bad (c .before .before .map-at .ensures) (c .enum-told .given .1) in
     reads-bad (from-bad (a .kind) (a .s .now) (a .from) (c .before .before .before .before .if1 .left) w)
 
 returns-3 : tie.Need-returns-3
 returns-3 c =
     let a = c .before .before .before .before .before .before .before .args in
-    let w = ap (λ (f : List ℕ). mapAt (a .kind) (a .s .now) (a .from) f) (sym (c .before .before .before .before .before .before .before .pre)) ∙ found-to (c .before .before .before .map-at .ensures) _ (c .before .walked .given .1) in
+    let w =
+    ap (λ (f : List ℕ). mapAt (a .kind) (a .s .now) (a .from) f) (sym (c .before .before .before .before .before .before .before .pre))
+    ∙ found-to (c .before .before .before .map-at .ensures) _ (c .before .walked .given .1) in
     from-ends (a .kind) (a .s .now) (a .from) (c .before .before .before .before .before .if1 .left) _ _ w
 
 pub map-from-spec : {M : Type 1} → statement M

@@ -2,10 +2,6 @@
 -- Assumes nothing.
 use Rattle.map.proofs.Ways.{number-absent, number-is}
 -- Assumes nothing.
-use mathlib.Core.Path.{sym, ap, _∙_}
-use Rattle.laws.proofs.Choice.{pick-yes, pick-no}
-use borrow.Author.Tests.{eq-eqb, ne-eqb}
-use Rattle.map.specs.Fields.{numberIn}
 use borrow.Author.Needs.{needs}
 use Rattle.map.proofs.number_in.Statement.{statement}
 use Rattle.map.proofs.number_in.Tie as tie

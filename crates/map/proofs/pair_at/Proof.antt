@@ -1,6 +1,6 @@
 -- `map::pair_at` meets its contract: its tests are those of the definition, in the same order.
 -- Assumes nothing.
-use mathlib.Core.Path.{_≡_, refl, sym, ap, _∙_}
+use mathlib.Core.Path.{sym, ap, _∙_}
 use Prim.Native.Nat.{_+_}
 use native.Mathlib.Omega.{arith}
 use Rattle.cbor.specs.Read.{itemAt}

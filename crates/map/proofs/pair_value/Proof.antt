@@ -1,9 +1,9 @@
 -- `map::pair_value` meets its contract: the item at the place is entered under its key.
 -- Assumes nothing.
-use mathlib.Core.Path.{_≡_, refl, sym, ap, _∙_}
+use mathlib.Core.Path.{sym, _∙_}
 use Rattle.map.proofs.Ways.{value-bad, value-is, finds-bad, finds-by}
 -- Assumes nothing.
-use mathlib.Core.Path.{_≡_, sym, ap, _∙_}
+use mathlib.Core.Path.{sym, _∙_}
 use Rattle.map.proofs.Ways.{value-bad, value-is, finds-bad}
 use borrow.Author.Needs.{needs}
 use Rattle.map.proofs.pair_value.Statement.{statement}
@@ -29,7 +29,8 @@ enter-requires c κs = search needs
 returns-2 : tie.Need-returns-2
 returns-2 c =
     let a = c .before .before .before .before .before .before .before .args in
-    finds-by (value-is (a .k) (a .f .now) _ _ _ (sym (c .before .before .before .before .before .item-at .ensures) ∙ c .before .before .before .item .given .1)) (c .enter .ensures)
+    finds-by (value-is (a .k) (a .f .now) _ _ _ (sym (c .before .before .before .before .before .item-at .ensures)
+    ∙ c .before .before .before .item .given .1)) (c .enter .ensures)
 
 pub pair-value-spec : {M : Type 1} → statement M
 pair-value-spec =

@@ -1,8 +1,6 @@
 -- `map::place_of` meets its contract: three numbers for each key.
 -- Assumes nothing.
 use mathlib.Core.Path.{sym, ap}
-use Prim.Native.Nat.{_*_}
-use Rattle.map.specs.declared.Key.{Key}
 use Rattle.map.specs.Fields.{indexOf, placeOf}
 use borrow.Author.Needs.{needs}
 use Rattle.map.proofs.place_of.Statement.{statement}

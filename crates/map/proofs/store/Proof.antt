@@ -2,8 +2,6 @@
 -- Assumes nothing.
 use Rattle.map.proofs.Ways.{stored-is}
 -- Assumes nothing.
-use mathlib.Core.Path.{sym, ap, _∙_}
-use Rattle.map.specs.Fields.{stored}
 use borrow.Author.Needs.{needs}
 use Rattle.map.proofs.store.Statement.{statement}
 use Rattle.map.proofs.store.Tie as tie

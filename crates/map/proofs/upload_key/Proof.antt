@@ -53,7 +53,8 @@ unfolding keyOf
 returns-3 c =
     let a = c .before .before .before .before .before .before .before .before .before .before .args in
     let k : List ℕ = take (a .len) (drop (a .start) (a .s .now)) in
-    let e₁ : same k nameData ≡ false = sym (c .before .before .before .before .before .before .before .name-is .ensures) ∙ c .before .before .before .before .before .before .if1 .left in
+    let e₁ : same k nameData ≡ false =
+    sym (c .before .before .before .before .before .before .before .name-is .ensures) ∙ c .before .before .before .before .before .before .if1 .left in
     let e₂ : same k nameOff ≡ false = sym (c .before .before .before .before .name-is2 .ensures) ∙ c .before .before .before .if2 .left in
     let e₃ : same k nameLen ≡ true = sym (c .before .name-is3 .ensures) ∙ c .if3 .taken in
     simp (e₁, e₂, e₃, pick-no, pick-yes)
@@ -66,7 +67,9 @@ unfolding keyOf laterName
 returns-4 c =
     let a = c .before .before .before .before .before .before .before .before .before .before .before .args in
     let k : List ℕ = take (a .len) (drop (a .start) (a .s .now)) in
-    let e₁ : same k nameData ≡ false = sym (c .before .before .before .before .before .before .before .before .name-is .ensures) ∙ c .before .before .before .before .before .before .before .if1 .left in
+    let e₁ : same k nameData ≡ false =
+    sym (c .before .before .before .before .before .before .before .before .name-is .ensures)
+    ∙ c .before .before .before .before .before .before .before .if1 .left in
     let e₂ : same k nameOff ≡ false = sym (c .before .before .before .before .before .name-is2 .ensures) ∙ c .before .before .before .before .if2 .left in
     let e₃ : same k nameLen ≡ false = sym (c .before .before .name-is3 .ensures) ∙ c .before .if3 .left in
     c .upload-later .ensures ∙ simp (e₁, e₂, e₃, pick-no)

@@ -53,7 +53,8 @@ unfolding laterName
 returns-3 c =
     let a = c .before .before .before .before .before .before .before .before .before .before .args in
     let k : List ℕ = take (a .len) (drop (a .start) (a .s .now)) in
-    let e₁ : same k nameImage ≡ false = sym (c .before .before .before .before .before .before .before .name-is .ensures) ∙ c .before .before .before .before .before .before .if1 .left in
+    let e₁ : same k nameImage ≡ false =
+    sym (c .before .before .before .before .before .before .before .name-is .ensures) ∙ c .before .before .before .before .before .before .if1 .left in
     let e₂ : same k nameSha ≡ false = sym (c .before .before .before .before .name-is2 .ensures) ∙ c .before .before .before .if2 .left in
     let e₃ : same k nameUpgrade ≡ true = sym (c .before .name-is3 .ensures) ∙ c .if3 .taken in
     simp (e₁, e₂, e₃, pick-no, pick-yes)
@@ -63,7 +64,8 @@ unfolding laterName
 returns-4 c =
     let a = c .before .before .before .before .before .before .before .before .before .before .args in
     let k : List ℕ = take (a .len) (drop (a .start) (a .s .now)) in
-    let e₁ : same k nameImage ≡ false = sym (c .before .before .before .before .before .before .before .name-is .ensures) ∙ c .before .before .before .before .before .before .if1 .left in
+    let e₁ : same k nameImage ≡ false =
+    sym (c .before .before .before .before .before .before .before .name-is .ensures) ∙ c .before .before .before .before .before .before .if1 .left in
     let e₂ : same k nameSha ≡ false = sym (c .before .before .before .before .name-is2 .ensures) ∙ c .before .before .before .if2 .left in
     let e₃ : same k nameUpgrade ≡ false = sym (c .before .name-is3 .ensures) ∙ c .if3 .left in
     simp (e₁, e₂, e₃, pick-no)

@@ -2,8 +2,7 @@
 -- of them come to.
 -- Assumes nothing.
 -- Assumes nothing.
-use mathlib.Core.Path.{_≡_, refl, sym, ap, _∙_}
-use Prim.Native.Nat.{ℕ}
+use mathlib.Core.Path.{_≡_, refl, _∙_}
 use native.Mathlib.Omega.{arith}
 use Rattle.map.specs.Walk.{pairs}
 use Rattle.map.proofs.Ways.{found-bad, found-to, finds-bad, finds-to, pairs-end, pairs-bad, pairs-on}
@@ -33,7 +32,8 @@ returns : tie.Need-returns Inv-loop μ-loop
 returns c =
     let a = c .before .before .before .before .before .before .before .args in
     let l = c .before .before .before .before .before .loop in
-    finds-bad (l .inv ∙ pairs-bad (a .kind) (a .s .now) (l .left) (l .at) (l .f) (c .before .before .before .before .loop-test .taken) (found-bad (c .before .before .pair-at .ensures) (c .enum-told .given .1)))
+    finds-bad (l .inv ∙ pairs-bad (a .kind) (a .s .now) (l .left) (l .at) (l .f) (c .before .before .before .before .loop-test .taken)
+    (found-bad (c .before .before .pair-at .ensures) (c .enum-told .given .1)))
 
 sub-left : tie.Need-sub-left Inv-loop μ-loop
 sub-left c = search needs
@@ -45,7 +45,8 @@ loop-again : tie.Need-loop-again Inv-loop μ-loop
 loop-again c =
     let a = c .before .before .before .before .before .before .before .before .args in
     let l = c .before .before .before .before .before .before .loop in
-    l .inv ∙ pairs-on (a .kind) (a .s .now) (l .left) (l .at) (l .f) _ _ (c .before .before .before .before .before .loop-test .taken) (found-to (c .before .before .before .pair-at .ensures) _ (c .before .pair .given .1))
+    l .inv ∙ pairs-on (a .kind) (a .s .now) (l .left) (l .at) (l .f) _ _ (c .before .before .before .before .before .loop-test .taken)
+    (found-to (c .before .before .before .pair-at .ensures) _ (c .before .pair .given .1))
 
 returns-2 : tie.Need-returns-2 Inv-loop μ-loop
 returns-2 c =

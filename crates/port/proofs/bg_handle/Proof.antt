@@ -34,7 +34,9 @@ enum-known-said c = search needs
 
 store-session-requires : tie.Need-store-session-requires
 store-session-requires c κs =
-    let a = c .before .before .before .before .before .before .before .before .before .before .before .before .before .before .before .before .before .before .before .before .before .args in
+    let a =
+    c .before .before .before .before .before .before .before .before .before .before .before .before .before .before .before .before .before .before
+    .before .before .before .args in
     let h = c .before .before .before .before .before .before .before .before .before .handle-packet in
     let slot : Slot = record { start = a .start; size = a .size } in
     let before = c .before .before .before .before .before .before .before .before .before .before .before .before .before .session-from in
@@ -45,7 +47,9 @@ store-session-requires c κs =
 
 cast-t36 : tie.Need-cast-t36
 cast-t36 c =
-    let a = c .before .before .before .before .before .before .before .before .before .before .before .before .before .before .before .before .before .before .before .before .before .before .args in
+    let a =
+    c .before .before .before .before .before .before .before .before .before .before .before .before .before .before .before .before .before .before
+    .before .before .before .before .args in
     let h = c .before .before .before .before .before .before .before .before .before .before .handle-packet in
     let slot : Slot = record { start = a .start; size = a .size } in
     let before = c .before .before .before .before .before .before .before .before .before .before .before .before .before .before .session-from in
@@ -62,10 +66,13 @@ same-length-2 c = search needs
 
 returns : tie.Need-returns
 returns c =
-    let a = c .before .before .before .before .before .before .before .before .before .before .before .before .before .before .before .before .before .before .before .before .before .before .before .args in
+    let a =
+    c .before .before .before .before .before .before .before .before .before .before .before .before .before .before .before .before .before .before
+    .before .before .before .before .before .args in
     let h = c .before .before .before .before .before .before .before .before .before .before .before .handle-packet in
     let before = c .before .before .before .before .before .before .before .before .before .before .before .before .before .before .before .session-from in
-    handled-replied (a .«record» .now) (a .answer .now) (h .result) (h .last .1 .1 .1 .0) (h .last .1 .1 .0) (h .last .1 .1 .1 .1 .1 .0) (c .before .before .before .before .said .given .0 .0) (c .before .store-session .last .0)
+    handled-replied (a .«record» .now) (a .answer .now) (h .result) (h .last .1 .1 .1 .0) (h .last .1 .1 .0) (h .last .1 .1 .1 .1 .1 .0)
+    (c .before .before .before .before .said .given .0 .0) (c .before .store-session .last .0)
     (c .before .before .before .before .said .given .1) (c .before .store-session .ensures)
     ∙ sym
     (handled-is (a .memory .now) (a .start) (a .size) (a .«record» .now) (a .tag .now) (a .packet .now) (a .reply .now) (a .answer .now) (h .result)
@@ -76,7 +83,9 @@ enum-known-said-2 c = search needs
 
 store-session-requires-2 : tie.Need-store-session-requires-2
 store-session-requires-2 c κs =
-    let a = c .before .before .before .before .before .before .before .before .before .before .before .before .before .before .before .before .before .before .before .before .before .args in
+    let a =
+    c .before .before .before .before .before .before .before .before .before .before .before .before .before .before .before .before .before .before
+    .before .before .before .args in
     let h = c .before .before .before .before .before .before .before .before .before .handle-packet in
     let slot : Slot = record { start = a .start; size = a .size } in
     let before = c .before .before .before .before .before .before .before .before .before .before .before .before .before .session-from in
@@ -87,7 +96,9 @@ store-session-requires-2 c κs =
 
 cast-t39 : tie.Need-cast-t39
 cast-t39 c =
-    let a = c .before .before .before .before .before .before .before .before .before .before .before .before .before .before .before .before .before .before .before .before .before .before .args in
+    let a =
+    c .before .before .before .before .before .before .before .before .before .before .before .before .before .before .before .before .before .before
+    .before .before .before .before .args in
     let h = c .before .before .before .before .before .before .before .before .before .before .handle-packet in
     let slot : Slot = record { start = a .start; size = a .size } in
     let before = c .before .before .before .before .before .before .before .before .before .before .before .before .before .before .session-from in
@@ -104,10 +115,13 @@ same-length-4 c = search needs
 
 returns-2 : tie.Need-returns-2
 returns-2 c =
-    let a = c .before .before .before .before .before .before .before .before .before .before .before .before .before .before .before .before .before .before .before .before .before .before .before .args in
+    let a =
+    c .before .before .before .before .before .before .before .before .before .before .before .before .before .before .before .before .before .before
+    .before .before .before .before .before .args in
     let h = c .before .before .before .before .before .before .before .before .before .before .before .handle-packet in
     let before = c .before .before .before .before .before .before .before .before .before .before .before .before .before .before .before .session-from in
-    handled-reset (a .«record» .now) (a .answer .now) (h .result) (h .last .1 .1 .1 .0) (h .last .1 .1 .0) (h .last .1 .1 .1 .1 .1 .0) (c .before .before .before .before .said2 .given .0 .0) (c .before .store-session2 .last .0)
+    handled-reset (a .«record» .now) (a .answer .now) (h .result) (h .last .1 .1 .1 .0) (h .last .1 .1 .0) (h .last .1 .1 .1 .1 .1 .0)
+    (c .before .before .before .before .said2 .given .0 .0) (c .before .store-session2 .last .0)
     (c .before .before .before .before .said2 .given .1) (c .before .store-session2 .ensures)
     ∙ sym
     (handled-is (a .memory .now) (a .start) (a .size) (a .«record» .now) (a .tag .now) (a .packet .now) (a .reply .now) (a .answer .now) (h .result)
@@ -127,10 +141,13 @@ same-length-6 c = search needs
 
 returns-3 : tie.Need-returns-3
 returns-3 c =
-    let a = c .before .before .before .before .before .before .before .before .before .before .before .before .before .before .before .before .before .before .before .before .before .args in
+    let a =
+    c .before .before .before .before .before .before .before .before .before .before .before .before .before .before .before .before .before .before
+    .before .before .before .args in
     let h = c .before .before .before .before .before .before .before .before .before .handle-packet in
     let before = c .before .before .before .before .before .before .before .before .before .before .before .before .before .session-from in
-    handled-refused (a .«record» .now) (a .answer .now) (h .result) (h .last .1 .1 .1 .0) (h .last .1 .1 .0) (h .last .1 .1 .1 .1 .1 .0) (c .number .result) (c .before .before .said3 .given .0 .0)
+    handled-refused (a .«record» .now) (a .answer .now) (h .result) (h .last .1 .1 .1 .0) (h .last .1 .1 .0) (h .last .1 .1 .1 .1 .1 .0)
+    (c .number .result) (c .before .before .said3 .given .0 .0)
     (c .before .before .said3 .given .1) (c .number .ensures)
     ∙ sym
     (handled-is (a .memory .now) (a .start) (a .size) (a .«record» .now) (a .tag .now) (a .packet .now) (a .reply .now) (a .answer .now) (h .result)

@@ -22,7 +22,8 @@ reply-numbers-requires : tie.Need-reply-numbers-requires
 reply-numbers-requires c κs =
     let a = c .before .before .before .before .before .args in
     let byte = c .before .before .before .before .shared-slice-known .given in
-    reply-small (a .packet .now) (omega (arith, byte 4)) (omega (arith, byte 5)) (c .before .heard .given .0 .0) (sym (c .before .before .before .read-reply .ensures) ∙ ap said (c .before .heard .given .1))
+    reply-small (a .packet .now) (omega (arith, byte 4)) (omega (arith, byte 5)) (c .before .heard .given .0 .0)
+    (sym (c .before .before .before .read-reply .ensures) ∙ ap said (c .before .heard .given .1))
 
 returns : tie.Need-returns
 unfolding readC readBy

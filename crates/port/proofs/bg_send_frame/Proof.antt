@@ -21,13 +21,21 @@ cast-t11 : tie.Need-cast-t11
 cast-t11 c =
     let a = c .before .before .before .before .before .before .before .before .before .args in
     let s = c .before .before .before .before .before .send-frame in
-    omega (arith, sent-small (a .body .now) (a .k) (a .out .now) _ _ (ap (λ (o : Outcome). o .says) (sym (s .ensures)) ∙ ap told (c .before .length .given .1)) .0)
+    omega (
+      arith,
+      sent-small (a .body .now) (a .k) (a .out .now) _ _ (ap (λ (o : Outcome). o .says) (sym (s .ensures))
+          ∙ ap told (c .before .length .given .1)) .0,
+    )
 
 cast-t12 : tie.Need-cast-t12
 cast-t12 c =
     let a = c .before .before .before .before .before .before .before .before .before .args in
     let s = c .before .before .before .before .before .send-frame in
-    omega (arith, sent-small (a .body .now) (a .k) (a .out .now) _ _ (ap (λ (o : Outcome). o .says) (sym (s .ensures)) ∙ ap told (c .before .length .given .1)) .1)
+    omega (
+      arith,
+      sent-small (a .body .now) (a .k) (a .out .now) _ _ (ap (λ (o : Outcome). o .says) (sym (s .ensures))
+          ∙ ap told (c .before .length .given .1)) .1,
+    )
 
 same-length : tie.Need-same-length
 same-length c = search needs

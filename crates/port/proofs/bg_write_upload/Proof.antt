@@ -14,7 +14,8 @@ write-upload-requires c κs = search needs
 told-c-requires : tie.Need-told-c-requires
 told-c-requires c κs = λ n e.
     let a = c .before .before .before .before .before .before .before .before .args in
-    upload-small (a .sequence) (a .«data» .now) (a .off) (a .length) (a .tag .now) (a .out .now) n (ap (λ (o : Outcome). o .says) (sym (c .before .before .before .write-upload .ensures)) ∙ e)
+    upload-small (a .sequence) (a .«data» .now) (a .off) (a .length) (a .tag .now) (a .out .now) n
+    (ap (λ (o : Outcome). o .says) (sym (c .before .before .before .write-upload .ensures)) ∙ e)
 
 same-length : tie.Need-same-length
 same-length c = search needs

@@ -44,7 +44,14 @@ cast-t16 c = omega (arith, c .before .before .before .before .before .before .be
 
 returns : tie.Need-returns
 unfolding replyNumbers
-returns c = simp (c .before .before .before .before .before .before .before .before .before .before .before .there-of .ensures, c .before .before .before .before .before .before .before .before .before .before .or-none .ensures, c .before .before .before .before .before .before .before .before .before .run-there .ensures, c .before .before .before .before .before .before .before .before .run-start .ensures, c .before .before .before .before .before .before .before .run-length .ensures)
+returns c =
+    simp (
+      c .before .before .before .before .before .before .before .before .before .before .before .there-of .ensures,
+      c .before .before .before .before .before .before .before .before .before .before .or-none .ensures,
+      c .before .before .before .before .before .before .before .before .before .run-there .ensures,
+      c .before .before .before .before .before .before .before .before .run-start .ensures,
+      c .before .before .before .before .before .before .before .run-length .ensures,
+    )
 
 pub reply-numbers-spec : {M : Type 1} → statement M
 reply-numbers-spec =

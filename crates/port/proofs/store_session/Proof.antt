@@ -24,7 +24,8 @@ returns : tie.Need-returns
 unfolding sessionNumbers
 returns c =
     let s = c .before .before .before .before .before .args .session in
-    ap₂ (λ (a b : ℕ). a ∷ s .length ∷ s .place ∷ b ∷ []) (c .before .before .before .before .number-of-flag .ensures) (c .before .before .before .number-of-flag2 .ensures)
+    ap₂ (λ (a b : ℕ). a ∷ s .length ∷ s .place ∷ b ∷ []) (c .before .before .before .before .number-of-flag .ensures)
+    (c .before .before .before .number-of-flag2 .ensures)
 
 pub store-session-spec : {M : Type 1} → statement M
 store-session-spec =

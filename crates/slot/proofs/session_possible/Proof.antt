@@ -20,7 +20,9 @@ returns-2 c =
 returns-3 : tie.Need-returns-3
 unfolding sessionOk
 returns-3 c =
-    let running = not-false (c .before .before .before .before .before .before .before .args .session .running) (c .before .before .before .before .before .if1 .left) in
+    let running =
+    not-false (c .before .before .before .before .before .before .before .args .session .running)
+    (c .before .before .before .before .before .if1 .left) in
     simp (running, le-leb _ _ (c .before .before .before .if2 .left), lt-leb _ _ (c .if3 .taken), pick-yes, both-yes, both-no)
 
 returns-4 : tie.Need-returns-4

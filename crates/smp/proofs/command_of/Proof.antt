@@ -12,15 +12,41 @@ returns c = simp (eq-eqb _ _ (c .before .before .if1 .taken), eq-eqb _ _ (c .if2
 
 returns-2 : tie.Need-returns-2
 unfolding commandOf
-returns-2 c = simp (eq-eqb _ _ (c .before .before .before .before .if1 .taken), ne-eqb _ _ (c .before .before .if2 .left), ne-eqb _ _ (c .if3 .taken), pick-yes, pick-no, both-no)
+returns-2 c =
+    simp (
+      eq-eqb _ _ (c .before .before .before .before .if1 .taken),
+      ne-eqb _ _ (c .before .before .if2 .left),
+      ne-eqb _ _ (c .if3 .taken),
+      pick-yes,
+      pick-no,
+      both-no,
+    )
 
 returns-3 : tie.Need-returns-3
 unfolding commandOf
-returns-3 c = simp (eq-eqb _ _ (c .before .before .before .before .before .before .if1 .taken), ne-eqb _ _ (c .before .before .before .before .if2 .left), eq-eqb _ _ (c .before .before .if3 .left), ne-eqb _ _ (c .if4 .taken), pick-yes, pick-no, both-yes)
+returns-3 c =
+    simp (
+      eq-eqb _ _ (c .before .before .before .before .before .before .if1 .taken),
+      ne-eqb _ _ (c .before .before .before .before .if2 .left),
+      eq-eqb _ _ (c .before .before .if3 .left),
+      ne-eqb _ _ (c .if4 .taken),
+      pick-yes,
+      pick-no,
+      both-yes,
+    )
 
 returns-4 : tie.Need-returns-4
 unfolding commandOf
-returns-4 c = simp (eq-eqb _ _ (c .before .before .before .before .before .before .if1 .taken), ne-eqb _ _ (c .before .before .before .before .if2 .left), eq-eqb _ _ (c .before .before .if3 .left), eq-eqb _ _ (c .if4 .left), pick-yes, pick-no, both-yes)
+returns-4 c =
+    simp (
+      eq-eqb _ _ (c .before .before .before .before .before .before .if1 .taken),
+      ne-eqb _ _ (c .before .before .before .before .if2 .left),
+      eq-eqb _ _ (c .before .before .if3 .left),
+      eq-eqb _ _ (c .if4 .left),
+      pick-yes,
+      pick-no,
+      both-yes,
+    )
 
 returns-5 : tie.Need-returns-5
 unfolding commandOf
@@ -28,19 +54,54 @@ returns-5 c = simp (ne-eqb _ _ (c .before .before .if1 .left), ne-eqb _ _ (c .if
 
 returns-6 : tie.Need-returns-6
 unfolding commandOf
-returns-6 c = simp (ne-eqb _ _ (c .before .before .before .before .if1 .left), eq-eqb _ _ (c .before .before .if5 .left), ne-eqb _ _ (c .if6 .taken), pick-no, both-yes)
+returns-6 c =
+    simp (ne-eqb _ _ (c .before .before .before .before .if1 .left), eq-eqb _ _ (c .before .before .if5 .left), ne-eqb _ _ (c .if6 .taken), pick-no, both-yes)
 
 returns-7 : tie.Need-returns-7
 unfolding commandOf
-returns-7 c = simp (ne-eqb _ _ (c .before .before .before .before .before .before .if1 .left), eq-eqb _ _ (c .before .before .before .before .if5 .left), eq-eqb _ _ (c .before .before .if6 .left), eq-eqb _ _ (c .if7 .taken), pick-yes, pick-no, both-yes)
+returns-7 c =
+    simp (
+      ne-eqb _ _ (c .before .before .before .before .before .before .if1 .left),
+      eq-eqb _ _ (c .before .before .before .before .if5 .left),
+      eq-eqb _ _ (c .before .before .if6 .left),
+      eq-eqb _ _ (c .if7 .taken),
+      pick-yes,
+      pick-no,
+      both-yes,
+    )
 
 returns-8 : tie.Need-returns-8
 unfolding commandOf
-returns-8 c = simp (ne-eqb _ _ (c .before .before .before .before .before .before .before .before .if1 .left), eq-eqb _ _ (c .before .before .before .before .before .before .if5 .left), eq-eqb _ _ (c .before .before .before .before .if6 .left), ne-eqb _ _ (c .before .before .if7 .left), eq-eqb _ _ (c .if8 .taken), pick-yes, pick-no, both-yes)
+returns-8 c =
+    simp (
+      ne-eqb _ _ (c .before .before .before .before .before .before .before .before .if1 .left),
+      eq-eqb _ _
+          (c .before .before .before .before .before .before .if5 .left),
+      eq-eqb _ _ (c .before .before .before .before .if6 .left),
+      ne-eqb _ _
+          (c .before .before .if7 .left),
+      eq-eqb _ _ (c .if8 .taken),
+      pick-yes,
+      pick-no,
+      both-yes,
+    )
 
 returns-9 : tie.Need-returns-9
 unfolding commandOf
-returns-9 c = simp (ne-eqb _ _ (c .before .before .before .before .before .before .before .before .if1 .left), eq-eqb _ _ (c .before .before .before .before .before .before .if5 .left), eq-eqb _ _ (c .before .before .before .before .if6 .left), ne-eqb _ _ (c .before .before .if7 .left), ne-eqb _ _ (c .if8 .left), pick-yes, pick-no, both-yes, both-no)
+returns-9 c =
+    simp (
+      ne-eqb _ _ (c .before .before .before .before .before .before .before .before .if1 .left),
+      eq-eqb _ _
+          (c .before .before .before .before .before .before .if5 .left),
+      eq-eqb _ _ (c .before .before .before .before .if6 .left),
+      ne-eqb _ _
+          (c .before .before .if7 .left),
+      ne-eqb _ _ (c .if8 .left),
+      pick-yes,
+      pick-no,
+      both-yes,
+      both-no,
+    )
 
 pub command-of-spec : {M : Type 1} → statement M
 command-of-spec =

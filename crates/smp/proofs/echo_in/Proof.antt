@@ -1,6 +1,6 @@
 -- `smp::echo_in` meets its contract: the map is read, and then its text.
 -- Assumes nothing.
-use mathlib.Core.Path.{_≡_, sym, ap, _∙_}
+use mathlib.Core.Path.{sym, ap, _∙_}
 use mathlib.Core.List.{List}
 use Prim.Native.Nat.{ℕ}
 use borrow.Author.Tests.{not-true, not-false}
@@ -32,14 +32,16 @@ returns-2 : tie.Need-returns-2
 unfolding requestOf mapped echoWith
 returns-2 c =
     sym
-    (ap (mapped (λ (f : List ℕ). echoWith (runIn f Key.Text))) (read-map (c .before .before .before .before .before .map-from .ensures) (not-false _ (c .before .before .before .before .if1 .left)))
+    (ap (mapped (λ (f : List ℕ). echoWith (runIn f Key.Text))) (read-map (c .before .before .before .before .before .map-from .ensures)
+    (not-false _ (c .before .before .before .before .if1 .left)))
     ∙ ap echoWith (sym (c .before .before .run-in .ensures) ∙ c .enum-told .given .1))
 
 returns-3 : tie.Need-returns-3
 unfolding requestOf mapped echoWith
 returns-3 c =
     sym
-    (ap (mapped (λ (f : List ℕ). echoWith (runIn f Key.Text))) (read-map (c .before .before .before .before .before .before .map-from .ensures) (not-false _ (c .before .before .before .before .before .if1 .left)))
+    (ap (mapped (λ (f : List ℕ). echoWith (runIn f Key.Text))) (read-map (c .before .before .before .before .before .before .map-from .ensures)
+    (not-false _ (c .before .before .before .before .before .if1 .left)))
     ∙ ap echoWith (sym (c .before .before .before .run-in .ensures) ∙ c .before .text .given .1))
 
 pub echo-in-spec : {M : Type 1} → statement M

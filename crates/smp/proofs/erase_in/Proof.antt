@@ -1,6 +1,6 @@
 -- `smp::erase_in` meets its contract: the map is read, and then its slot.
 -- Assumes nothing.
-use mathlib.Core.Path.{_≡_, sym, ap, _∙_}
+use mathlib.Core.Path.{sym, ap, _∙_}
 use mathlib.Core.List.{List}
 use Prim.Native.Nat.{ℕ}
 use borrow.Author.Tests.{not-true, not-false}
@@ -34,22 +34,29 @@ returns-2 : tie.Need-returns-2
 unfolding requestOf mapped eraseWith
 returns-2 c =
     sym
-    (ap (mapped (λ (f : List ℕ). eraseWith (numberIn f Key.Slot))) (read-map (c .before .before .before .before .before .map-from .ensures) (not-false _ (c .before .before .before .before .if1 .left)))
+    (ap (mapped (λ (f : List ℕ). eraseWith (numberIn f Key.Slot))) (read-map (c .before .before .before .before .before .map-from .ensures)
+    (not-false _ (c .before .before .before .before .if1 .left)))
     ∙ ap eraseWith (sym (c .before .before .number-in .ensures) ∙ c .enum-told .given .1))
 
 returns-3 : tie.Need-returns-3
 unfolding requestOf mapped eraseWith
 returns-3 c =
     sym
-    (ap (mapped (λ (f : List ℕ). eraseWith (numberIn f Key.Slot))) (read-map (c .before .before .before .before .before .before .before .map-from .ensures) (not-false _ (c .before .before .before .before .before .before .if1 .left)))
-    ∙ ap eraseWith (sym (c .before .before .before .before .number-in .ensures) ∙ c .before .before .slot .given .1) ∙ simp (eq-eqb _ _ (c .if2 .taken), pick-yes))
+    (ap (mapped (λ (f : List ℕ). eraseWith (numberIn f Key.Slot))) (read-map
+    (c .before .before .before .before .before .before .before .map-from .ensures)
+    (not-false _ (c .before .before .before .before .before .before .if1 .left)))
+    ∙ ap eraseWith (sym (c .before .before .before .before .number-in .ensures) ∙ c .before .before .slot .given .1)
+    ∙ simp (eq-eqb _ _ (c .if2 .taken), pick-yes))
 
 returns-4 : tie.Need-returns-4
 unfolding requestOf mapped eraseWith
 returns-4 c =
     sym
-    (ap (mapped (λ (f : List ℕ). eraseWith (numberIn f Key.Slot))) (read-map (c .before .before .before .before .before .before .before .map-from .ensures) (not-false _ (c .before .before .before .before .before .before .if1 .left)))
-    ∙ ap eraseWith (sym (c .before .before .before .before .number-in .ensures) ∙ c .before .before .slot .given .1) ∙ simp (ne-eqb _ _ (c .if2 .left), pick-no))
+    (ap (mapped (λ (f : List ℕ). eraseWith (numberIn f Key.Slot))) (read-map
+    (c .before .before .before .before .before .before .before .map-from .ensures)
+    (not-false _ (c .before .before .before .before .before .before .if1 .left)))
+    ∙ ap eraseWith (sym (c .before .before .before .before .number-in .ensures) ∙ c .before .before .slot .given .1)
+    ∙ simp (ne-eqb _ _ (c .if2 .left), pick-no))
 
 pub erase-in-spec : {M : Type 1} → statement M
 erase-in-spec =

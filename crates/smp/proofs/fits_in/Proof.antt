@@ -47,20 +47,23 @@ unfolding replyMap
 returns c =
     let a = c .before .before .before .before .args in
     let g = c .before .reply .given in
-    sym (ap (λ (r : Reply). not (ltb (a .room) (8 + length (replyMap (a .s .now) r)))) (g .1) ∙ ap not (rc-fits (rcOf (g .0 .0)) (a .room) (rc-byte (g .0 .0)) (c .before .before .before .before .pre .0)))
+    sym (ap (λ (r : Reply). not (ltb (a .room) (8 + length (replyMap (a .s .now) r)))) (g .1)
+    ∙ ap not (rc-fits (rcOf (g .0 .0)) (a .room) (rc-byte (g .0 .0)) (c .before .before .before .before .pre .0)))
 
 returns-2 : tie.Need-returns-2
 unfolding replyMap
 returns-2 c =
     let a = c .before .before .before .args in
-    sym (ap (λ (r : Reply). not (ltb (a .room) (8 + length (replyMap (a .s .now) r)))) (c .enum-told .given .1) ∙ ap not (rc-fits 0 (a .room) (lit< tt) (c .before .before .before .pre .0)))
+    sym (ap (λ (r : Reply). not (ltb (a .room) (8 + length (replyMap (a .s .now) r)))) (c .enum-told .given .1)
+    ∙ ap not (rc-fits 0 (a .room) (lit< tt) (c .before .before .before .pre .0)))
 
 returns-3 : tie.Need-returns-3
 returns-3 c =
     let a = c .before .before .before .before .args in
     let g = c .before .reply2 .given in
     let small = rw (g .1) at (c .before .before .before .before .pre .1) in
-    sym (ap (λ (r : Reply). not (ltb (a .room) (8 + length (replyMap (a .s .now) r)))) (g .1) ∙ ap not (placed-fits (a .s .now) (g .0 .0) (a .room) small (c .before .before .before .before .pre .0)))
+    sym (ap (λ (r : Reply). not (ltb (a .room) (8 + length (replyMap (a .s .now) r)))) (g .1)
+    ∙ ap not (placed-fits (a .s .now) (g .0 .0) (a .room) small (c .before .before .before .before .pre .0)))
 
 returns-4 : tie.Need-returns-4
 returns-4 c =

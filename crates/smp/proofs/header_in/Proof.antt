@@ -23,7 +23,15 @@ byte-at-requires-4 : tie.Need-byte-at-requires-4
 byte-at-requires-4 c κs = search needs
 
 returns : tie.Need-returns
-returns c = simp (← c .before .before .before .before .before .byte-at .ensures, ← c .before .before .before .before .byte-at2 .ensures, ← c .before .before .before .number-at .ensures .0, ← c .before .before .number-at2 .ensures .0, ← c .before .byte-at3 .ensures, ← c .byte-at4 .ensures)
+returns c =
+    simp (
+      ← c .before .before .before .before .before .byte-at .ensures,
+      ← c .before .before .before .before .byte-at2 .ensures,
+      ← c .before .before .before .number-at .ensures .0,
+      ← c .before .before .number-at2 .ensures .0,
+      ← c .before .byte-at3 .ensures,
+      ← c .byte-at4 .ensures,
+    )
 
 pub header-in-spec : {M : Type 1} → statement M
 header-in-spec =

@@ -27,11 +27,26 @@ byte-at-requires c κs = search needs
 
 returns-2 : tie.Need-returns-2
 unfolding isRequest
-returns-2 c = simp (← c .before .before .before .is-sized .ensures, not-false (c .before .before .before .is-sized .result) (c .before .before .if1 .left), ← c .before .byte-at .ensures, eq-eqb _ _ (c .if2 .taken), both-yes, both-no)
+returns-2 c =
+    simp (
+      ← c .before .before .before .is-sized .ensures,
+      not-false (c .before .before .before .is-sized .result) (c .before .before .if1 .left),
+      ← c .before .byte-at .ensures,
+      eq-eqb _ _ (c .if2 .taken),
+      both-yes,
+      both-no,
+    )
 
 returns-3 : tie.Need-returns-3
 unfolding isRequest
-returns-3 c = simp (← c .before .before .before .is-sized .ensures, not-false (c .before .before .before .is-sized .result) (c .before .before .if1 .left), ← c .before .byte-at .ensures, ne-eqb _ _ (c .if2 .left), both-yes) (not-twice (eqb (c .before .byte-at .result) 2))
+returns-3 c =
+    simp (
+      ← c .before .before .before .is-sized .ensures,
+      not-false (c .before .before .before .is-sized .result) (c .before .before .if1 .left),
+      ← c .before .byte-at .ensures,
+      ne-eqb _ _ (c .if2 .left),
+      both-yes,
+    ) (not-twice (eqb (c .before .byte-at .result) 2))
 
 pub is-request-spec : {M : Type 1} → statement M
 is-request-spec =

@@ -32,7 +32,8 @@ add-result c = search needs
 returns : tie.Need-returns
 returns c =
     let a = c .before .before .before .before .before .args in (
-      ap₂ (λ (x y : ℕ). x * 256 + y) (c .before .before .wide .ensures .0 ∙ c .before .before .before .byte-at .ensures) (c .wide2 .ensures .0 ∙ c .before .byte-at2 .ensures) ∙ two-bytes (a .s .now) (a .at),
+      ap₂ (λ (x y : ℕ). x * 256 + y) (c .before .before .wide .ensures .0 ∙ c .before .before .before .byte-at .ensures)
+          (c .wide2 .ensures .0 ∙ c .before .byte-at2 .ensures) ∙ two-bytes (a .s .now) (a .at),
       omega arith,
     )
 

@@ -44,8 +44,15 @@ put-text-requires-2 : tie.Need-put-text-requires-2
 put-text-requires-2 c κs =
     let a = c .before .before .before .before .before .before .before .before .before .before .before .before .before .args in
     let t = textOf (take (a .start + a .len - a .start) (drop (a .start) (a .s .now))) in
-    let room = rw (echo-parts (a .s .now) (a .start) (a .len)) at (c .before .before .before .before .before .before .before .before .before .before .before .before .before .pre .1) in
-    omega (arith, room-three 8 (mapOf 1) (textOf nameR) t (c .before .before .before .before .before .before .before .before .before .put-head .ensures .place) (c .before .before .before .before .put-text .ensures .place) room)
+    let room =
+    rw (echo-parts (a .s .now) (a .start) (a .len)) at
+    (c .before .before .before .before .before .before .before .before .before .before .before .before .before .pre .1) in
+    omega (
+      arith,
+      room-three 8 (mapOf 1) (textOf nameR) t
+          (c .before .before .before .before .before .before .before .before .before .put-head .ensures .place)
+          (c .before .before .before .before .put-text .ensures .place) room,
+    )
 
 same-length : tie.Need-same-length
 same-length c = search needs
@@ -54,8 +61,12 @@ returns : tie.Need-returns
 returns c =
     let a = c .before .before .before .before .before .before .before .before .before .before .before .before .before .before .before .before .args in
     let t = textOf (take (a .start + a .len - a .start) (drop (a .start) (a .s .now))) in
-    let room = rw (echo-parts (a .s .now) (a .start) (a .len)) at (c .before .before .before .before .before .before .before .before .before .before .before .before .before .before .before .before .pre .1) in
-    rw (echo-parts (a .s .now) (a .start) (a .len)) (put-three 8 (mapOf 1) (textOf nameR) t room (c .before .before .before .before .before .before .before .before .before .before .before .before .put-head .ensures) (c .before .before .before .before .before .before .before .put-text .ensures) (c .before .before .put-text2 .ensures))
+    let room =
+    rw (echo-parts (a .s .now) (a .start) (a .len)) at
+    (c .before .before .before .before .before .before .before .before .before .before .before .before .before .before .before .before .pre .1) in
+    rw (echo-parts (a .s .now) (a .start) (a .len)) (put-three 8 (mapOf 1) (textOf nameR) t room
+    (c .before .before .before .before .before .before .before .before .before .before .before .before .put-head .ensures)
+    (c .before .before .before .before .before .before .before .put-text .ensures) (c .before .before .put-text2 .ensures))
 
 pub put-echo-spec : {M : Type 1} → statement M
 put-echo-spec =

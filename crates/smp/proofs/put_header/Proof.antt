@@ -23,7 +23,11 @@ same-length c = search needs
 returns : tie.Need-returns
 returns c =
     let a = c .before .before .before .before .before .before .before .before .before .before .before .before .before .before .before .before .before .args in
-    header-put (a .h) (a .buf .now) _ _ _ _ (c .before .before .before .before .before .before .before .before .before .before .before .before .before .before .before .before .before .pre) (c .before .before .before .before .before .before .before .before .before .before .before .before .before .before .put-two .ensures) (c .before .before .before .before .before .before .before .before .before .before .put-be16 .ensures) (c .before .before .before .before .before .before .put-be162 .ensures) (c .before .before .put-two2 .ensures)
+    header-put (a .h) (a .buf .now) _ _ _ _
+    (c .before .before .before .before .before .before .before .before .before .before .before .before .before .before .before .before .before .pre)
+    (c .before .before .before .before .before .before .before .before .before .before .before .before .before .before .put-two .ensures)
+    (c .before .before .before .before .before .before .before .before .before .before .put-be16 .ensures)
+    (c .before .before .before .before .before .before .put-be162 .ensures) (c .before .before .put-two2 .ensures)
 
 pub put-header-spec : {M : Type 1} → statement M
 put-header-spec =

@@ -1,11 +1,6 @@
 -- `smp::put_map` meets its contract: each reply has its own writer.
 -- Assumes nothing.
-use mathlib.Core.Path.{sym, ap}
-use Prim.Native.Nat.{ℕ, _+_, _≤_}
-use mathlib.Core.List.{List}
-use lib.ListN.{length}
-use Rattle.cbor.specs.Put.{Put}
-use Rattle.smp.specs.Reply.{rcMap, replyMap}
+use Rattle.smp.specs.Reply.{replyMap}
 use borrow.Author.Needs.{needs}
 use Rattle.smp.proofs.put_map.Statement.{statement}
 use Rattle.smp.proofs.put_map.Tie as tie
@@ -18,7 +13,8 @@ rc-requires c κs = search needs
 
 put-rc-requires : tie.Need-put-rc-requires
 unfolding replyMap
-put-rc-requires c κs = rw (c .rc .ensures) (rw (c .before .before .before .reply .given .1) at (c .before .before .before .before .before .before .before .pre .1))
+put-rc-requires c κs =
+    rw (c .rc .ensures) (rw (c .before .before .before .reply .given .1) at (c .before .before .before .before .before .before .before .pre .1))
 
 enum-told : tie.Need-enum-told
 enum-told c = search needs
@@ -48,7 +44,9 @@ same-length c = search needs
 
 returns : tie.Need-returns
 unfolding replyMap
-returns c = rw (c .before .before .before .before .before .before .reply .given .1) (rw (c .before .before .before .rc .ensures) at (c .before .before .put-rc .ensures))
+returns c =
+    rw (c .before .before .before .before .before .before .reply .given .1)
+    (rw (c .before .before .before .rc .ensures) at (c .before .before .put-rc .ensures))
 
 same-length-2 : tie.Need-same-length-2
 same-length-2 c = search needs

@@ -15,8 +15,14 @@ put-text-requires c κs =
 
 put-head-requires : tie.Need-put-head-requires
 put-head-requires c κs =
-    let a = c .before .before .before .before .before .before .before .args in
-    (lit< tt, omega (arith, room-rest (a .at) (textOf (a .name .now)) (unsigned (a .n)) (c .before .before .before .put-text .ensures .place) (c .before .before .before .before .before .before .before .pre)))
+    let a = c .before .before .before .before .before .before .before .args in (
+      lit< tt,
+      omega (
+        arith,
+        room-rest (a .at) (textOf (a .name .now)) (unsigned (a .n)) (c .before .before .before .put-text .ensures .place)
+            (c .before .before .before .before .before .before .before .pre),
+      ),
+    )
 
 same-length : tie.Need-same-length
 same-length c = search needs
@@ -24,7 +30,9 @@ same-length c = search needs
 returns : tie.Need-returns
 returns c =
     let a = c .before .before .before .before .before .before .before .before .before .before .args in
-    put-then (room-first (a .at) (textOf (a .name .now)) (unsigned (a .n)) (c .before .before .before .before .before .before .before .before .before .before .pre)) (c .before .before .before .before .before .before .put-text .ensures) (c .before .before .put-head .ensures)
+    put-then (room-first (a .at) (textOf (a .name .now)) (unsigned (a .n))
+    (c .before .before .before .before .before .before .before .before .before .before .pre))
+    (c .before .before .before .before .before .before .put-text .ensures) (c .before .before .put-head .ensures)
 
 pub put-number-spec : {M : Type 1} → statement M
 put-number-spec = tie.close (tie.spec put-text-requires put-head-requires same-length returns)

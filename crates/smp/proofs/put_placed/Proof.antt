@@ -23,7 +23,11 @@ put-number-requires : tie.Need-put-number-requires
 put-number-requires c κs =
     let n = c .before .before .before .before .before .before .before .args .n in
     let room = rw (placed-parts [] n) at (c .before .before .before .before .before .before .before .pre) in
-    omega (arith, room-two 8 (mapOf 2) (textOf nameRc ++ unsigned 0) (textOf nameOff ++ unsigned n) (c .before .before .before .before .put-head .ensures .place) room)
+    omega (
+      arith,
+      room-two 8 (mapOf 2) (textOf nameRc ++ unsigned 0) (textOf nameOff ++ unsigned n)
+          (c .before .before .before .before .put-head .ensures .place) room,
+    )
 
 slice-aggregate-put-number-2 : tie.Need-slice-aggregate-put-number-2
 slice-aggregate-put-number-2 c = search needs
@@ -32,7 +36,12 @@ put-number-requires-2 : tie.Need-put-number-requires-2
 put-number-requires-2 c κs =
     let n = c .before .before .before .before .before .before .before .before .before .before .before .before .args .n in
     let room = rw (placed-parts [] n) at (c .before .before .before .before .before .before .before .before .before .before .before .before .pre) in
-    omega (arith, room-three 8 (mapOf 2) (textOf nameRc ++ unsigned 0) (textOf nameOff ++ unsigned n) (c .before .before .before .before .before .before .before .before .before .put-head .ensures .place) (c .before .before .before .before .put-number .ensures .place) room)
+    omega (
+      arith,
+      room-three 8 (mapOf 2) (textOf nameRc ++ unsigned 0) (textOf nameOff ++ unsigned n)
+          (c .before .before .before .before .before .before .before .before .before .put-head .ensures .place)
+          (c .before .before .before .before .put-number .ensures .place) room,
+    )
 
 same-length : tie.Need-same-length
 same-length c = search needs
@@ -40,8 +49,12 @@ same-length c = search needs
 returns : tie.Need-returns
 returns c =
     let n = c .before .before .before .before .before .before .before .before .before .before .before .before .before .before .before .args .n in
-    let room = rw (placed-parts [] n) at (c .before .before .before .before .before .before .before .before .before .before .before .before .before .before .before .pre) in
-    rw (placed-parts [] n) (put-three 8 (mapOf 2) (textOf nameRc ++ unsigned 0) (textOf nameOff ++ unsigned n) room (c .before .before .before .before .before .before .before .before .before .before .before .before .put-head .ensures) (c .before .before .before .before .before .before .before .put-number .ensures) (c .before .before .put-number2 .ensures))
+    let room =
+    rw (placed-parts [] n) at (c .before .before .before .before .before .before .before .before .before .before .before .before .before .before
+    .before .pre) in
+    rw (placed-parts [] n) (put-three 8 (mapOf 2) (textOf nameRc ++ unsigned 0) (textOf nameOff ++ unsigned n) room
+    (c .before .before .before .before .before .before .before .before .before .before .before .before .put-head .ensures)
+    (c .before .before .before .before .before .before .before .put-number .ensures) (c .before .before .put-number2 .ensures))
 
 pub put-placed-spec : {M : Type 1} → statement M
 put-placed-spec =

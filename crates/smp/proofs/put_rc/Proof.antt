@@ -17,13 +17,22 @@ slice-aggregate-put-number : tie.Need-slice-aggregate-put-number
 slice-aggregate-put-number c = search needs
 
 put-number-requires : tie.Need-put-number-requires
-put-number-requires c κs = omega (arith, room-rest 8 (mapOf 1) (textOf nameRc ++ unsigned (c .before .before .before .before .before .before .before .args .n)) (c .before .before .before .before .put-head .ensures .place) (c .before .before .before .before .before .before .before .pre))
+put-number-requires c κs =
+    omega (
+      arith,
+      room-rest 8 (mapOf 1) (textOf nameRc ++ unsigned (c .before .before .before .before .before .before .before .args .n))
+          (c .before .before .before .before .put-head .ensures .place) (c .before .before .before .before .before .before .before .pre),
+    )
 
 same-length : tie.Need-same-length
 same-length c = search needs
 
 returns : tie.Need-returns
-returns c = put-then (room-first 8 (mapOf 1) (textOf nameRc ++ unsigned (c .before .before .before .before .before .before .before .before .before .before .args .n)) (c .before .before .before .before .before .before .before .before .before .before .pre)) (c .before .before .before .before .before .before .before .put-head .ensures) (c .before .before .put-number .ensures)
+returns c =
+    put-then (room-first 8 (mapOf 1)
+    (textOf nameRc ++ unsigned (c .before .before .before .before .before .before .before .before .before .before .args .n))
+    (c .before .before .before .before .before .before .before .before .before .before .pre))
+    (c .before .before .before .before .before .before .before .put-head .ensures) (c .before .before .put-number .ensures)
 
 pub put-rc-spec : {M : Type 1} → statement M
 put-rc-spec =

@@ -24,7 +24,11 @@ same-length c = search needs
 returns : tie.Need-returns
 returns c =
     let a = c .before .before .before .before .before .before .before .before .before .before .before .args in
-    packet-put (a .h) (c .before .before .before .before .reply-header .result) (replyMap (a .s .now) (a .reply)) (c .before .before .before .before .before .before .before .put-map .result) (c .before .before .before .before .before .before .before .before .before .before .before .pre .1 .1) (c .before .before .before .before .before .before .before .put-map .ensures) (c .before .before .before .before .reply-header .ensures) (c .before .before .put-header .ensures)
+    packet-put (a .h) (c .before .before .before .before .reply-header .result) (replyMap (a .s .now) (a .reply))
+    (c .before .before .before .before .before .before .before .put-map .result)
+    (c .before .before .before .before .before .before .before .before .before .before .before .pre .1 .1)
+    (c .before .before .before .before .before .before .before .put-map .ensures) (c .before .before .before .before .reply-header .ensures)
+    (c .before .before .put-header .ensures)
 
 pub put-reply-spec : {M : Type 1} → statement M
 put-reply-spec =

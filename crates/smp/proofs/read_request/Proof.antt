@@ -25,7 +25,16 @@ request-of-requires c κs = search needs
 
 returns-2 : tie.Need-returns-2
 unfolding readRequest
-returns-2 c = simp (← c .before .before .before .before .is-request .ensures, not-false (c .before .before .before .before .is-request .result) (c .before .before .before .if1 .left), ← c .before .before .header-in .ensures, ← c .before .command-of .ensures, ← c .request-of .ensures, pick-yes)
+returns-2 c =
+    simp (
+      ← c .before .before .before .before .is-request .ensures,
+      not-false (c .before .before .before .before .is-request .result)
+          (c .before .before .before .if1 .left),
+      ← c .before .before .header-in .ensures,
+      ← c .before .command-of .ensures,
+      ← c .request-of .ensures,
+      pick-yes,
+    )
 
 pub read-request-spec : {M : Type 1} → statement M
 read-request-spec =

@@ -1,8 +1,6 @@
 -- `smp::upload_in` meets its contract: the map is read, and then its keys.
 -- Assumes nothing.
-use mathlib.Core.Path.{_≡_, sym, ap, _∙_}
-use mathlib.Core.List.{List}
-use Prim.Native.Nat.{ℕ}
+use mathlib.Core.Path.{sym, ap, _∙_}
 use borrow.Author.Tests.{not-true, not-false}
 use Rattle.map.proofs.Ways.{read-bad, read-map}
 use Rattle.smp.specs.Request.{mapped, uploadOf, requestOf}
@@ -22,7 +20,8 @@ upload-of-requires c κs = search needs
 
 returns-2 : tie.Need-returns-2
 unfolding requestOf mapped
-returns-2 c = c .upload-of .ensures ∙ sym (ap (mapped uploadOf) (read-map (c .before .before .before .map-from .ensures) (not-false _ (c .before .before .if1 .left))))
+returns-2 c =
+    c .upload-of .ensures ∙ sym (ap (mapped uploadOf) (read-map (c .before .before .before .map-from .ensures) (not-false _ (c .before .before .if1 .left))))
 
 pub upload-in-spec : {M : Type 1} → statement M
 upload-in-spec = tie.close (tie.spec map-from-requires returns upload-of-requires returns-2)

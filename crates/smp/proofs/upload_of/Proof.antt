@@ -1,8 +1,6 @@
 -- `smp::upload_of` meets its contract: "off" and "data" first, and then the other keys as they are.
 -- Assumes nothing.
-use mathlib.Core.Path.{_≡_, sym, ap, ap₂, _∙_}
-use Prim.Native.Nat.{ℕ}
-use mathlib.Core.Bool.{Bool}
+use mathlib.Core.Path.{sym, ap, ap₂, _∙_}
 use Rattle.laws.specs.declared.Number.{Number}
 use Rattle.laws.specs.declared.Run.{Run}
 use Rattle.map.specs.declared.Key.{Key}
@@ -62,7 +60,8 @@ unfolding uploadWith
 returns-3 c =
     let a = c .before .before .before .before .before .before .before .before .before .before .before .before .args in
     let e = ap₂ (λ (n : Number) (x : Run). uploadWith (a .f .now) n x)
-    (sym (c .before .before .before .before .before .before .before .before .before .before .before .number-in .ensures) ∙ c .before .before .before .before .before .before .before .before .before .offset .given .1)
+    (sym (c .before .before .before .before .before .before .before .before .before .before .before .number-in .ensures)
+    ∙ c .before .before .before .before .before .before .before .before .before .offset .given .1)
     (sym (c .before .before .before .before .before .before .before .run-in .ensures) ∙ c .before .before .before .before .before .chunk .given .1) in
     rw (c .before .before .before .number-in2 .ensures, c .before .before .number-in3 .ensures, c .before .run-in2 .ensures, c .flag-in .ensures) (sym e)
 

@@ -22,10 +22,19 @@ same-length c = search needs
 returns : tie.Need-returns
 returns c =
     let a = c .before .before .before .before .before .before .before .before .args in
-    written-seven (a .h) (a .s .now) (a .reply) (a .buf .now) _ _ (not-false _ (sym (c .before .before .before .before .before .fits-in .ensures) ∙ not-true (c .before .before .before .before .before .fits-in .result) (c .before .before .before .before .if1 .taken))) (c .before .before .put-reply .ensures)
+    written-seven (a .h) (a .s .now) (a .reply) (a .buf .now) _ _ (not-false _ (sym (c .before .before .before .before .before .fits-in .ensures)
+    ∙ not-true (c .before .before .before .before .before .fits-in .result) (c .before .before .before .before .if1 .taken)))
+    (c .before .before .put-reply .ensures)
 
 put-reply-requires-2 : tie.Need-put-reply-requires-2
-put-reply-requires-2 c κs = (c .before .before .before .before .before .pre .1 .0, (c .before .before .before .before .before .pre .1 .1, ltb-false _ _ (not-true _ (sym (c .before .before .fits-in .ensures) ∙ not-false (c .before .before .fits-in .result) (c .before .if1 .left)))))
+put-reply-requires-2 c κs = (
+  c .before .before .before .before .before .pre .1 .0,
+  (
+    c .before .before .before .before .before .pre .1 .1,
+    ltb-false _ _
+        (not-true _ (sym (c .before .before .fits-in .ensures) ∙ not-false (c .before .before .fits-in .result) (c .before .if1 .left))),
+  ),
+)
 
 same-length-2 : tie.Need-same-length-2
 same-length-2 c = search needs
@@ -33,7 +42,9 @@ same-length-2 c = search needs
 returns-2 : tie.Need-returns-2
 returns-2 c =
     let a = c .before .before .before .before .before .before .before .before .args in
-    written-whole (a .h) (a .s .now) (a .reply) (a .buf .now) _ _ (not-true _ (sym (c .before .before .before .before .before .fits-in .ensures) ∙ not-false (c .before .before .before .before .before .fits-in .result) (c .before .before .before .before .if1 .left))) (c .before .before .put-reply2 .ensures)
+    written-whole (a .h) (a .s .now) (a .reply) (a .buf .now) _ _ (not-true _ (sym (c .before .before .before .before .before .fits-in .ensures)
+    ∙ not-false (c .before .before .before .before .before .fits-in .result) (c .before .before .before .before .if1 .left)))
+    (c .before .before .put-reply2 .ensures)
 
 pub write-reply-spec : {M : Type 1} → statement M
 write-reply-spec =

@@ -1,12 +1,14 @@
--- Which records and answers the arrays of 32-bit numbers can hold.
+-- Which records and answers the arrays of 32-bit numbers can hold. Only proofs need this file.
 -- Assumes nothing.
-use Prim.Native.Nat.{ℕ, _≤_, _<_}
+use Prim.Native.Nat.{_≤_, _<_}
 use mathlib.Core.Path.{_≡_}
 use mathlib.Core.Bool.{false}
 use Rattle.reader.specs.declared.Reader.{Reader}
 use Rattle.reader.specs.declared.Reader.the-variants.{Idle, Open}
 use Rattle.reader.specs.Reader as reading
 use Rattle.slot.specs.declared.Session.{Session}
+use Rattle.host.specs.declared.Reply.{Reply}
+use Rattle.port.specs.Records.{orNone, runStart, runLength}
 use Rattle.port.specs.Calls.{keepsRecord}
 
 -- a reader's record whose numbers fit
@@ -23,3 +25,12 @@ SmallBy (reading.refused n) r = keepsRecord n ≡ false → Storable r
 -- a session record whose numbers fit
 abbrev pub Held32 : Session → Type 0
 Held32 s = (s .length < 4294967296) × (s .place < 4294967296)
+
+-- a reply's numbers fit the 32 bits that C reads; its four other header fields are bytes
+pub record ReplySmall (r : Reply) : Type 0 where
+  pub length : r .header .length ≤ 4294967295
+  pub group : r .header .group ≤ 4294967295
+  pub rc : r .rc ≤ 4294967295
+  pub off : orNone (r .off) ≤ 4294967295
+  pub start : runStart (r .text) ≤ 4294967295
+  pub run : runLength (r .text) ≤ 4294967295
