@@ -1,5 +1,5 @@
 /*
- * Measures the proved archive and the plain C frame path: driver PROGRAM PATH KIB ROUNDS.
+ * Measures the proved archive and the plain C frame path: driver archive|plain PATH KIB ROUNDS.
  * It prints a digest of all that the path produced, the bytes of one round, and the nanoseconds of the best round.
  * bench/rust/src/main.rs has the same paths, sizes and buffers; its digests have to be the same.
  */
@@ -16,11 +16,9 @@ enum { STRIDE = 128, PACKET = 1024, BODY = 512, LONG_BODY = 65533, DATA = 480, T
 
 typedef uint32_t send_call(const uint8_t *, size_t, size_t, uint8_t *, size_t, uint32_t[2]);
 typedef uint32_t take_call(uint32_t[4], const uint8_t *, size_t, uint8_t *, size_t, uint32_t *);
-typedef uint16_t crc_call(uint16_t, const uint8_t *, size_t);
 
 static send_call *send_frame;
 static take_call *take_line;
-static crc_call *crc_of;
 
 static size_t image_len, body_size, leave_last, line_count, out_len, request_count, reply_count;
 static uint8_t *image, *lines, *out, *memory, *requests, *replies;
@@ -86,7 +84,7 @@ static void run_crc(void)
 {
     size_t at = 0, length;
     while ((length = body_at(at)) > 0) {
-        sum += crc_of(0, image + at, length);
+        sum += plain_crc(0, image + at, length);
         at += length;
     }
 }
@@ -265,14 +263,13 @@ static uint64_t now(void)
 int main(int argc, char **argv)
 {
     if (argc != 5)
-        fail("usage: driver archive|bits|table PATH KIB ROUNDS");
+        fail("usage: driver archive|plain PATH KIB ROUNDS");
     const char *program = argv[1], *path = argv[2];
     image_len = strtoul(argv[3], NULL, 10) * 1024;
     unsigned long rounds = strtoul(argv[4], NULL, 10);
-    int archive = strcmp(program, "archive") == 0, table = strcmp(program, "table") == 0;
-    send_frame = archive ? bg_send_frame : table ? plain_send_frame_table : plain_send_frame_bits;
-    take_line = archive ? bg_take_line : table ? plain_take_line_table : plain_take_line_bits;
-    crc_of = table ? plain_crc_table : plain_crc_bits;
+    int archive = strcmp(program, "archive") == 0;
+    send_frame = archive ? bg_send_frame : plain_send_frame;
+    take_line = archive ? bg_take_line : plain_take_line;
 
     image = room(image_len);
     memory = room(image_len);
