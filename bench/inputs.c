@@ -64,6 +64,9 @@ static const struct string forbidden[] = {
     STRING("\x1C\0\0\0\0\0\0\0\0"), STRING("\x1C\0\0\0\0\0\0\0\0\0\0\0\0\0\0\0\0"), STRING("\x5C\0\0\0\0\0\0\0\0"),
 };
 
+/* The characters of Base64. */
+static const char base64[] = "ABCDEFGHIJKLMNOPQRSTUVWXYZabcdefghijklmnopqrstuvwxyz0123456789+/";
+
 /* False, true and null. */
 static const struct string simples[] = {STRING("\xF4"), STRING("\xF5"), STRING("\xF6")};
 
@@ -515,7 +518,6 @@ size_t make_reply(struct rng *rng, uint8_t packet[PACKET_MAX])
 /* Writes a frame's line; gives its length. */
 size_t encode_line(bool initial, const uint8_t *raw, size_t raw_len, uint8_t line[LINE_MAX])
 {
-    static const char character[] = "ABCDEFGHIJKLMNOPQRSTUVWXYZabcdefghijklmnopqrstuvwxyz0123456789+/";
     size_t length = 2;
     line[0] = initial ? 0x06 : 0x04;
     line[1] = initial ? 0x09 : 0x14;
@@ -523,13 +525,20 @@ size_t encode_line(bool initial, const uint8_t *raw, size_t raw_len, uint8_t lin
         size_t left = raw_len - at;
         uint32_t group = (uint32_t)raw[at] << 16 | (left > 1 ? (uint32_t)raw[at + 1] << 8 : 0) | (left > 2 ? raw[at + 2] : 0);
         for (size_t i = 0; i < 4; i++)
-            line[length++] = i > left ? '=' : (uint8_t)character[group >> (18 - 6 * i) & 63];
+            line[length++] = i > left ? '=' : (uint8_t)base64[group >> (18 - 6 * i) & 63];
     }
     line[length++] = 0x0A;
     return length;
 }
 
-/* Damages a line: its marker, its end, its text, its padding, its length. */
+/* Damages the last group of a line's text: another character of Base64 or padding at any of its places. */
+static void damage_group(struct rng *rng, uint8_t line[LINE_MAX], size_t end)
+{
+    if (end >= 6)
+        line[range(rng, end - 4, end - 1)] = once_in(rng, 3) ? '=' : (uint8_t)base64[below(rng, 64)];
+}
+
+/* Damages a line: its marker, its end, its text, its last group, its length. */
 size_t damage_line(struct rng *rng, uint8_t line[LINE_MAX], size_t length)
 {
     static const uint8_t characters[] = {'=', '-', '_', 0x0A, 0x0D, 0, 0x80, 0xFF, 'A', 'B', '/', '+'};
@@ -544,8 +553,7 @@ size_t damage_line(struct rng *rng, uint8_t line[LINE_MAX], size_t length)
     case 2:
         return damage(rng, line, length, LINE_MAX);
     case 3:
-        if (end > 4)
-            line[range(rng, end - 3, end - 1)] = PICK(rng, characters);
+        damage_group(rng, line, end);
         return length;
     case 4:
         while (length < 128 + below(rng, 8))
