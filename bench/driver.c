@@ -1,31 +1,65 @@
 /*
- * Measures the proved archive and the plain C frame path: driver PROGRAM PATH KIB ROUNDS.
- * It prints a digest of all that the path produced, the bytes of one round, and the nanoseconds of the best round.
- * bench/rust/src/main.rs has the same paths, sizes and buffers; its digests have to be the same.
+ * Measures the proved archive or the plain C calls:
+ *
+ *   driver archive|plain PATH KIB ROUNDS    prints a digest of all that the path produced, the bytes and the calls of one round, the bytes
+ *                                           of the packets that went over the line, and the nanoseconds of the best round
+ *   driver archive|plain search LENGTH      reads families COMMAND-PAIR, one to a line, handles one request of each, of at most LENGTH
+ *                                           bytes, and prints the family and the request's bytes
+ *
+ * PATH is one of the table at the end, or a family: fill-COMMAND-PAIR, requests of the longest length with one pair, given in hexadecimal,
+ * again and again. bench/rust/src/main.rs has the same paths, sizes and buffers; its digests have to be the same.
  */
 #define _POSIX_C_SOURCE 200809L
 #include "../include/belagunthi.h"
 #include "plain.h"
 
+#include <stdbool.h>
 #include <stdio.h>
 #include <stdlib.h>
 #include <string.h>
 #include <time.h>
 
-enum { STRIDE = 128, PACKET = 1024, BODY = 512, LONG_BODY = 65533, DATA = 480, TEXT = 256, PAIRS = 24, MAPS = 2000 };
+enum { STRIDE = 128, PACKET = 1024, BODY = 512, LONGEST = 65533, BEFORE_LAST = 65000 };
+enum { DATA = 480, CHUNK = 512, TEXT = 256, PAIRS = 24, MAPS = 2000, ERASES = 4 };
 
-typedef uint32_t send_call(const uint8_t *, size_t, size_t, uint8_t *, size_t, uint32_t[2]);
-typedef uint32_t take_call(uint32_t[4], const uint8_t *, size_t, uint8_t *, size_t, uint32_t *);
-typedef uint16_t crc_call(uint16_t, const uint8_t *, size_t);
+/* The calls of one program. */
+struct port {
+    __typeof__(bg_take_line) *take_line;
+    __typeof__(bg_send_frame) *send_frame;
+    __typeof__(bg_configure) *configure;
+    __typeof__(bg_handle) *handle;
+    __typeof__(bg_write_echo) *write_echo;
+    __typeof__(bg_write_upload) *write_upload;
+    __typeof__(bg_read_reply) *read_reply;
+    __typeof__(bg_next_sequence) *next_sequence;
+};
 
-static send_call *send_frame;
-static take_call *take_line;
-static crc_call *crc_of;
+static const struct port archive = {
+    bg_take_line, bg_send_frame, bg_configure, bg_handle, bg_write_echo, bg_write_upload, bg_read_reply, bg_next_sequence,
+};
+static const struct port plain = {
+    plain_take_line, plain_send_frame, plain_configure, plain_handle, plain_write_echo, plain_write_upload, plain_read_reply,
+    plain_next_sequence,
+};
+static const struct port *port;
 
-static size_t image_len, body_size, leave_last, line_count, out_len, request_count, reply_count;
+/* What a path produced: its digest, and for one round the bytes, the calls, and the bytes of packets over the line. */
+struct result {
+    uint64_t digest, bytes, calls, framed;
+};
+
+static const uint64_t no_bytes = 14695981039346656037u;
+
+static size_t image_len, slot_size, body_size, leave_last, line_count, out_len, request_count, reply_count, request_stride = PACKET;
 static uint8_t *image, *lines, *out, *memory, *requests, *replies;
 static uint32_t *line_lens, *request_lens, *reply_lens, *numbers_read;
 static uint64_t sum;
+static const char *family;
+
+/* The session that the requests find, and the first request that is measured. */
+static uint32_t begun[4];
+static uint8_t begun_tag[32];
+static size_t first_request;
 
 /* Ends with one line where a call was refused or a result is wrong. */
 static void fail(const char *what)
@@ -61,7 +95,7 @@ static void run_send(void)
     while ((length = body_at(at)) > 0) {
         uint32_t sent[2] = {0, 2};
         for (size_t k = 0; k == 0 || k + leave_last < sent[1]; k++) {
-            if (send_frame(image + at, length, k, lines + line_count * STRIDE, BG_LINE, sent) != 0)
+            if (port->send_frame(image + at, length, k, lines + line_count * STRIDE, BG_LINE, sent) != 0)
                 fail("a frame was refused");
             line_lens[line_count++] = sent[0];
         }
@@ -75,7 +109,7 @@ static void run_read(void)
     uint32_t reader[4] = {0, 0, 0, 0}, body = 0;
     out_len = 0;
     for (size_t i = 0; i < line_count; i++) {
-        if (take_line(reader, lines + i * STRIDE, line_lens[i], out + out_len, LONG_BODY, &body) != 0)
+        if (port->take_line(reader, lines + i * STRIDE, line_lens[i], out + out_len, LONGEST, &body) != 0)
             fail("a line was refused");
         out_len += body;
     }
@@ -85,8 +119,9 @@ static void run_read(void)
 static void run_crc(void)
 {
     size_t at = 0, length;
+    sum = 0;
     while ((length = body_at(at)) > 0) {
-        sum += crc_of(0, image + at, length);
+        sum += plain_crc(0, image + at, length);
         at += length;
     }
 }
@@ -95,20 +130,20 @@ static void run_crc(void)
 static void run_reply(void)
 {
     for (size_t i = 0; i < reply_count; i++)
-        if (bg_read_reply(replies + i * PACKET, reply_lens[i], numbers_read + i * BG_REPLY) != 0)
+        if (port->read_reply(replies + i * PACKET, reply_lens[i], numbers_read + i * BG_REPLY) != 0)
             fail("a reply was refused");
 }
 
-/* Handles every request. */
+/* Handles every request from the first on. */
 static void run_handle(void)
 {
     uint32_t session[4], answer[2];
     uint8_t tag[32];
-    if (bg_configure(0, image_len, image_len, session, tag) != 0)
-        fail("the slot was refused");
-    for (size_t i = 0; i < request_count; i++) {
-        if (bg_handle(memory, image_len, 0, image_len, session, tag, requests + i * PACKET, request_lens[i],
-                      replies + i * PACKET, PACKET, answer) != 0)
+    memcpy(session, begun, sizeof session);
+    memcpy(tag, begun_tag, sizeof tag);
+    for (size_t i = first_request; i < request_count; i++) {
+        if (port->handle(memory, image_len, 0, slot_size, session, tag, requests + i * request_stride, request_lens[i], replies + i * PACKET,
+                         PACKET, answer) != 0)
             fail("a request was refused");
         reply_lens[i] = answer[0];
     }
@@ -121,9 +156,9 @@ static uint32_t pass(const uint8_t *packet, size_t length, uint8_t *to)
     uint32_t reader[4] = {0, 0, 0, 0}, sent[2] = {0, 1}, body = 0;
     uint8_t line[STRIDE];
     for (size_t k = 0; k < sent[1]; k++) {
-        if (send_frame(packet, length, k, line, BG_LINE, sent) != 0)
+        if (port->send_frame(packet, length, k, line, BG_LINE, sent) != 0)
             fail("a frame was refused");
-        if (take_line(reader, line, sent[0], to, LONG_BODY, &body) != 0)
+        if (port->take_line(reader, line, sent[0], to, LONGEST, &body) != 0)
             fail("a line was refused");
     }
     return body;
@@ -139,19 +174,19 @@ static void run_frames(void)
     }
 }
 
-/* Uploads the image: write, send, read, handle, send, read, read the reply; keeps packets where asked to. */
-static void upload(int framed)
+/* Uploads the image: write, send, read, handle, send, read, read the reply; without the line it records requests and replies. */
+static void upload(bool framed)
 {
     static uint8_t request[PACKET], come[65536], reply[PACKET], back[65536];
     uint32_t session[4], answer[2], numbers[12], length;
     uint8_t tag[32], image_tag[32], sequence = 0;
     memset(image_tag, 7, sizeof image_tag);
-    if (bg_configure(0, image_len, image_len, session, tag) != 0)
+    if (port->configure(0, image_len, image_len, session, tag) != 0)
         fail("the slot was refused");
     request_count = 0;
     for (size_t off = 0; off < image_len; off = numbers[8]) {
         size_t data = image_len - off < DATA ? image_len - off : DATA;
-        if (bg_write_upload(sequence, image + off, data, off, image_len, image_tag, 32, request, PACKET, &length) != 0)
+        if (port->write_upload(sequence, image + off, data, off, image_len, image_tag, 32, request, PACKET, &length) != 0)
             fail("an upload was refused");
         const uint8_t *got = request, *read = reply;
         uint32_t got_len = length;
@@ -159,7 +194,7 @@ static void upload(int framed)
             got_len = pass(request, length, come);
             got = come;
         }
-        if (bg_handle(memory, image_len, 0, image_len, session, tag, got, got_len, reply, PACKET, answer) != 0)
+        if (port->handle(memory, image_len, 0, image_len, session, tag, got, got_len, reply, PACKET, answer) != 0)
             fail("a request was refused");
         uint32_t read_len = answer[0];
         if (framed) {
@@ -167,13 +202,13 @@ static void upload(int framed)
             read = back;
         } else {
             memcpy(requests + request_count * PACKET, request, length);
-            request_lens[request_count] = length;
             memcpy(replies + request_count * PACKET, reply, read_len);
-            reply_lens[request_count] = read_len;
         }
-        if (bg_read_reply(read, read_len, numbers) != 0 || numbers[6] != 0 || numbers[8] <= off)
+        if (port->read_reply(read, read_len, numbers) != 0 || numbers[6] != 0 || numbers[8] <= off)
             fail("a reply is not as it has to be");
-        sequence = bg_next_sequence(sequence);
+        request_lens[request_count] = length;
+        reply_lens[request_count] = read_len;
+        sequence = port->next_sequence(sequence);
         request_count++;
     }
     reply_count = request_count;
@@ -182,7 +217,18 @@ static void upload(int framed)
 /* One whole upload over the line. */
 static void run_upload(void)
 {
-    upload(1);
+    upload(true);
+}
+
+/* Nothing has to be there before. */
+static void make_nothing(void)
+{
+}
+
+/* Records the requests and replies of an upload. */
+static void make_upload(void)
+{
+    upload(false);
 }
 
 /* Writes the echo requests. */
@@ -192,33 +238,143 @@ static void make_echoes(void)
     for (size_t i = 0; i < MAPS; i++) {
         for (size_t j = 0; j < TEXT; j++)
             text[j] = (uint8_t)('a' + (i + j) % 26);
-        if (bg_write_echo((uint8_t)i, text, TEXT, requests + i * PACKET, PACKET, &request_lens[i]) != 0)
+        if (port->write_echo((uint8_t)i, text, TEXT, requests + i * PACKET, PACKET, &request_lens[i]) != 0)
             fail("an echo was refused");
     }
     request_count = MAPS;
 }
 
-/* Writes replies whose map has other pairs before its rc. */
+/* Writes the echo replies. */
+static void make_echo_replies(void)
+{
+    make_echoes();
+    run_handle();
+}
+
+/* Writes an upload's requests, each with as much data as a packet of 512 bytes takes, and handles the first, which sets the slot to 255. */
+static void make_chunks(void)
+{
+    uint32_t answer[2];
+    uint8_t tag[32];
+    memset(tag, 7, sizeof tag);
+    request_count = 0;
+    for (size_t off = 0, data; off < image_len; off += data) {
+        uint8_t *to = requests + request_count * PACKET;
+        data = image_len - off < CHUNK ? image_len - off : CHUNK;
+        while (data > 0 && port->write_upload((uint8_t)request_count, image + off, data, off, image_len, tag, 32, to, CHUNK,
+                                              &request_lens[request_count]) != 0)
+            data--;
+        if (data == 0)
+            fail("an upload was refused");
+        request_count++;
+    }
+    if (port->handle(memory, image_len, 0, image_len, begun, begun_tag, requests, request_lens[0], replies, PACKET, answer) != 0)
+        fail("a request was refused");
+    reply_lens[0] = answer[0];
+    first_request = 1;
+}
+
+/* Writes unknown pairs; gives the place after them. */
+static uint8_t *put_unknown(uint8_t *to, size_t i)
+{
+    for (size_t j = 0; j < PAIRS; j++) {
+        const uint8_t pair[] = {0x63, 'k', (uint8_t)('a' + j), 'x', 0x19, (uint8_t)(i >> 8 | 1), (uint8_t)i};
+        memcpy(to, pair, sizeof pair);
+        to += sizeof pair;
+    }
+    return to;
+}
+
+/* Writes a header over the payload that ends at a place; gives the packet's length. */
+static uint32_t put_header(uint8_t *packet, const uint8_t *end, uint8_t op, uint8_t group, size_t sequence, uint8_t command)
+{
+    size_t length = (size_t)(end - packet), payload = length - 8;
+    const uint8_t header[] = {op, 0, (uint8_t)(payload >> 8), (uint8_t)payload, 0, group, (uint8_t)sequence, command};
+    memcpy(packet, header, sizeof header);
+    return (uint32_t)length;
+}
+
+/* Writes replies whose map has unknown pairs before its rc. */
 static void make_pairs(void)
 {
     for (size_t i = 0; i < MAPS; i++) {
-        uint8_t *at = replies + i * PACKET, *to = at + 8;
-        *to++ = 0xB8;
-        *to++ = PAIRS + 1;
-        for (size_t j = 0; j < PAIRS; j++) {
-            const uint8_t pair[] = {0x63, 'k', (uint8_t)('a' + j), 'x', 0x19, (uint8_t)(i >> 8 | 1), (uint8_t)i};
-            memcpy(to, pair, sizeof pair);
-            to += sizeof pair;
-        }
-        memcpy(to, "\x62rc", 3);
-        to[3] = (uint8_t)(i % 20);
-        to += 4;
-        size_t payload = (size_t)(to - at) - 8;
-        const uint8_t header[] = {3, 0, (uint8_t)(payload >> 8), (uint8_t)payload, 0, 1, (uint8_t)i, 1};
-        memcpy(at, header, sizeof header);
-        reply_lens[i] = (uint32_t)(to - at);
+        uint8_t *at = replies + i * PACKET;
+        memcpy(at + 8, (uint8_t[]){0xB8, PAIRS + 1}, 2);
+        uint8_t *to = put_unknown(at + 10, i);
+        memcpy(to, (uint8_t[]){0x62, 'r', 'c', (uint8_t)(i % 20)}, 4);
+        reply_lens[i] = put_header(at, to + 4, 3, 1, i, 1);
     }
     reply_count = MAPS;
+}
+
+/* Writes requests whose map has unknown pairs: in turn an echo, with its text after them, and a reset. */
+static void make_unknown(void)
+{
+    for (size_t i = 0; i < MAPS; i++) {
+        bool echo = i % 2 == 0;
+        uint8_t *at = requests + i * PACKET;
+        memcpy(at + 8, (uint8_t[]){0xB8, (uint8_t)(PAIRS + echo)}, 2);
+        uint8_t *to = put_unknown(at + 10, i);
+        memcpy(to, (uint8_t[]){0x61, 'd', 0x61, (uint8_t)('a' + i % 26)}, 4);
+        request_lens[i] = put_header(at, echo ? to + 4 : to, 2, 0, i, echo ? 0 : 5);
+    }
+    request_count = MAPS;
+}
+
+/* Writes erase requests. */
+static void make_erases(void)
+{
+    for (size_t i = 0; i < ERASES; i++) {
+        uint8_t *at = requests + i * PACKET;
+        at[8] = 0xA0;
+        request_lens[i] = put_header(at, at + 9, 2, 1, i, 5);
+    }
+    request_count = ERASES;
+}
+
+/* The bytes of a family's pair; gives the family's header. */
+static const uint8_t *read_family(const char *from, uint8_t pair[STRIDE], size_t *length)
+{
+    static const struct command {
+        const char *name;
+        uint8_t header[8];
+    } commands[] = {{"echo-", {2, 0, 0, 0}}, {"reset-", {2, 0, 0, 5}}, {"upload-", {2, 0, 1, 1}}, {"erase-", {2, 0, 1, 5}}};
+    for (size_t i = 0; i < 4; i++) {
+        size_t name = strlen(commands[i].name);
+        unsigned byte;
+        if (strncmp(from, commands[i].name, name) != 0)
+            continue;
+        for (*length = 0; *length < STRIDE && sscanf(from + name + 2 * *length, "%2x", &byte) == 1; (*length)++)
+            pair[*length] = (uint8_t)byte;
+        return commands[i].header;
+    }
+    fail("no such command");
+    return NULL;
+}
+
+/* Writes one request of a family, of at most so many bytes; it is handled again and again, with a slot of one byte, so that none is filled. */
+static void make_family(size_t most)
+{
+    uint8_t pair[STRIDE], *to = requests + 11;
+    size_t length, count = 0;
+    const uint8_t *command = read_family(family, pair, &length);
+    if (length < 2)
+        fail("a pair has two bytes or more");
+    for (; 11 + (count + 1) * length <= most; count++, to += length)
+        memcpy(to, pair, length);
+    memcpy(requests + 8, (uint8_t[]){0xB9, (uint8_t)(count >> 8), (uint8_t)count}, 3);
+    request_lens[0] = put_header(requests, to, command[0], command[2], 0, command[3]);
+    request_count = image_len / 65536;
+    for (size_t i = 0; i < request_count; i++)
+        request_lens[i] = request_lens[0];
+    request_stride = 0;
+    slot_size = 1;
+}
+
+/* Writes one request of a family, as long as a request may be. */
+static void make_fill(void)
+{
+    make_family(LONGEST);
 }
 
 /* Adds bytes to a digest (FNV-1a). */
@@ -229,9 +385,10 @@ static uint64_t digest(uint64_t value, const uint8_t *bytes, size_t length)
     return value;
 }
 
-/* Adds packets or lines of a stride to a digest. */
-static uint64_t digest_all(uint64_t value, const uint8_t *bytes, const uint32_t *lens, size_t count, size_t stride)
+/* A digest of packets or lines of a stride. */
+static uint64_t digest_all(const uint8_t *bytes, const uint32_t *lens, size_t count, size_t stride)
 {
+    uint64_t value = no_bytes;
     for (size_t i = 0; i < count; i++)
         value = digest(value, bytes + i * stride, lens[i]);
     return value;
@@ -244,6 +401,106 @@ static uint64_t total(const uint32_t *lens, size_t count)
     for (size_t i = 0; i < count; i++)
         bytes += lens[i];
     return bytes;
+}
+
+/* What was sent: the lines. */
+static struct result sent_lines(void)
+{
+    return (struct result){digest_all(lines, line_lens, line_count, STRIDE), image_len, line_count, leave_last ? 0 : image_len};
+}
+
+/* What was read: the bodies; or, without the last frames, what stands of the last long one. */
+static struct result read_bodies(void)
+{
+    uint64_t value = digest(no_bytes, out, leave_last ? BEFORE_LAST : out_len);
+    return (struct result){value, image_len, line_count, leave_last ? 0 : image_len};
+}
+
+/* The CRCs. */
+static struct result computed_crcs(void)
+{
+    return (struct result){sum, image_len, (image_len + body_size - 1) / body_size, image_len};
+}
+
+/* What was read in the replies. */
+static struct result read_replies(void)
+{
+    uint64_t value = 0;
+    for (size_t i = 0; i < reply_count * BG_REPLY; i++)
+        value = value * 31 + numbers_read[i];
+    value ^= digest_all(replies, reply_lens, reply_count, PACKET);
+    return (struct result){value, total(reply_lens, reply_count), reply_count, 0};
+}
+
+/* The replies to the requests, and the slot. */
+static struct result answered(void)
+{
+    uint64_t value = digest(digest_all(replies, reply_lens, reply_count, PACKET), memory, image_len);
+    size_t count = request_count - first_request;
+    return (struct result){value, total(request_lens + first_request, count), count, 0};
+}
+
+/* The replies to the erases, and the slot, whose bytes are counted. */
+static struct result erased(void)
+{
+    struct result result = answered();
+    result.bytes = result.calls * slot_size;
+    return result;
+}
+
+/* The packets that came over the line. */
+static struct result passed(void)
+{
+    uint64_t framed = total(request_lens, request_count) + total(reply_lens, reply_count);
+    return (struct result){digest(no_bytes, out, out_len), image_len, request_count, framed};
+}
+
+/* The slot, which has to hold the image. */
+static struct result uploaded(void)
+{
+    uint64_t framed = total(request_lens, request_count) + total(reply_lens, reply_count);
+    if (memcmp(memory, image, image_len) != 0)
+        fail("the slot does not hold the image");
+    return (struct result){digest(no_bytes, memory, image_len), image_len, request_count, framed};
+}
+
+/* A path: what is made before, one round, and what it produced. */
+static const struct path {
+    const char *name;
+    void (*make)(void), (*run)(void);
+    struct result (*produced)(void);
+    size_t body_size, leave_last;
+} paths[] = {
+    {"send", make_nothing, run_send, sent_lines, BODY, 0},
+    {"sendlong", make_nothing, run_send, sent_lines, LONGEST, 0},
+    {"sendlong-open", make_nothing, run_send, sent_lines, LONGEST, 1},
+    {"read", run_send, run_read, read_bodies, BODY, 0},
+    {"readlong", run_send, run_read, read_bodies, LONGEST, 0},
+    {"readlong-open", run_send, run_read, read_bodies, LONGEST, 1},
+    {"crc", make_nothing, run_crc, computed_crcs, BODY, 0},
+    {"reply", make_upload, run_reply, read_replies, 0, 0},
+    {"echo", make_echo_replies, run_reply, read_replies, 0, 0},
+    {"pairs", make_pairs, run_reply, read_replies, 0, 0},
+    {"handle", make_echoes, run_handle, answered, 0, 0},
+    {"chunks", make_chunks, run_handle, answered, 0, 0},
+    {"unknown", make_unknown, run_handle, answered, 0, 0},
+    {"erase", make_erases, run_handle, erased, 0, 0},
+    {"frames", make_upload, run_frames, passed, 0, 0},
+    {"upload", make_nothing, run_upload, uploaded, 0, 0},
+    {"fill", make_fill, run_handle, answered, 0, 0},
+};
+
+/* The path of this name; of a family's name the rest is kept. */
+static const struct path *path_of(const char *name)
+{
+    bool is_family = strncmp(name, "fill-", 5) == 0;
+    if (is_family)
+        family = name + 5;
+    for (size_t i = 0; i < sizeof paths / sizeof *paths; i++)
+        if (strcmp(paths[i].name, is_family ? "fill" : name) == 0)
+            return &paths[i];
+    fail("no such path");
+    return NULL;
 }
 
 /* One round: what callgrind counts. */
@@ -261,100 +518,72 @@ static uint64_t now(void)
     return (uint64_t)t.tv_sec * 1000000000u + (uint64_t)t.tv_nsec;
 }
 
-/* Sets up one path, runs its rounds and prints what came of it. */
-int main(int argc, char **argv)
+/* Allocates the buffers, and fills the image with the bytes of a fixed seed. */
+static void set_up(size_t bytes)
 {
-    if (argc != 5)
-        fail("usage: driver archive|bits|table PATH KIB ROUNDS");
-    const char *program = argv[1], *path = argv[2];
-    image_len = strtoul(argv[3], NULL, 10) * 1024;
-    unsigned long rounds = strtoul(argv[4], NULL, 10);
-    int archive = strcmp(program, "archive") == 0, table = strcmp(program, "table") == 0;
-    send_frame = archive ? bg_send_frame : table ? plain_send_frame_table : plain_send_frame_bits;
-    take_line = archive ? bg_take_line : table ? plain_take_line_table : plain_take_line_bits;
-    crc_of = table ? plain_crc_table : plain_crc_bits;
-
-    image = room(image_len);
-    memory = room(image_len);
-    lines = room((image_len / 64 + 16) * STRIDE);
-    line_lens = room((image_len / 64 + 16) * sizeof *line_lens);
-    out = room(2 * image_len + 2 * 65536);
-    size_t packets = image_len / DATA + MAPS + 1;
+    size_t packets = bytes / DATA + MAPS + 1;
+    uint64_t state = 88172645463325252u;
+    image_len = slot_size = bytes;
+    image = room(bytes);
+    memory = room(bytes);
+    lines = room((bytes / 64 + 16) * STRIDE);
+    line_lens = room((bytes / 64 + 16) * sizeof *line_lens);
+    out = room(2 * bytes + 2 * 65536);
     requests = room(packets * PACKET);
     replies = room(packets * PACKET);
     request_lens = room(packets * sizeof *request_lens);
     reply_lens = room(packets * sizeof *reply_lens);
     numbers_read = room(packets * BG_REPLY * sizeof *numbers_read);
-    uint64_t state = 88172645463325252u;
-    for (size_t i = 0; i < image_len; i++) {
+    for (size_t i = 0; i < bytes; i++) {
         state ^= state << 13;
         state ^= state >> 7;
         state ^= state << 17;
         image[i] = (uint8_t)(state >> 32);
     }
+}
 
-    body_size = strstr(path, "long") != NULL ? LONG_BODY : BODY;
-    leave_last = strstr(path, "-open") != NULL;
-    void (*run)(void) = NULL;
-    if (strncmp(path, "send", 4) == 0) {
-        run = run_send;
-    } else if (strncmp(path, "read", 4) == 0) {
-        run_send();
-        run = run_read;
-    } else if (strcmp(path, "crc") == 0 && !archive) {
-        run = run_crc;
-    } else if (strcmp(path, "frames") == 0) {
-        upload(0);
-        run = run_frames;
-    } else if (strcmp(path, "upload") == 0 && archive) {
-        run = run_upload;
-    } else if (strcmp(path, "reply") == 0 && archive) {
-        upload(0);
-        run = run_reply;
-    } else if (strcmp(path, "echo") == 0 && archive) {
-        make_echoes();
-        run_handle();
-        run = run_reply;
-    } else if (strcmp(path, "pairs") == 0 && archive) {
-        make_pairs();
-        run = run_reply;
-    } else if (strcmp(path, "handle") == 0 && archive) {
-        make_echoes();
-        run = run_handle;
-    } else {
-        fail("no such path");
-    }
-
+/* Runs a path's rounds and prints what came of it. */
+static void measure(const char *name, size_t kib, unsigned long rounds)
+{
+    const struct path *path = path_of(name);
     uint64_t best = UINT64_MAX;
+    set_up(kib * 1024);
+    body_size = path->body_size;
+    leave_last = path->leave_last;
+    path->make();
     for (unsigned long i = 0; i < rounds; i++) {
-        sum = 0;
         uint64_t from = now();
-        measured(run);
+        measured(path->run);
         uint64_t took = now() - from;
         best = took < best ? took : best;
     }
+    struct result result = path->produced();
+    printf("%016llx %llu %llu %llu %llu\n", (unsigned long long)result.digest, (unsigned long long)result.bytes,
+           (unsigned long long)result.calls, (unsigned long long)result.framed, (unsigned long long)best);
+}
 
-    uint64_t value = 14695981039346656037u, bytes = image_len;
-    if (run == run_send) {
-        value = digest_all(value, lines, line_lens, line_count, STRIDE);
-    } else if (run == run_read || run == run_frames) {
-        value = digest(value, out, out_len);
-        bytes = run == run_frames || leave_last ? image_len : out_len;
-    } else if (run == run_upload) {
-        if (memcmp(memory, image, image_len) != 0)
-            fail("the slot does not hold the image");
-        value = digest(value, memory, image_len);
-    } else if (run == run_reply) {
-        for (size_t i = 0; i < reply_count * BG_REPLY; i++)
-            sum = sum * 31 + numbers_read[i];
-        value = digest_all(value, replies, reply_lens, reply_count, PACKET) ^ sum;
-        bytes = total(reply_lens, reply_count);
-    } else if (run == run_handle) {
-        value = digest_all(value, replies, reply_lens, reply_count, PACKET);
-        bytes = total(request_lens, request_count);
-    } else {
-        value = sum;
+/* Handles a request of each family that is read. */
+static void search(size_t most)
+{
+    char line[2 * STRIDE];
+    set_up(65536);
+    while (scanf("%255s", line) == 1) {
+        family = line;
+        make_family(most);
+        measured(run_handle);
+        printf("%s %u\n", family, request_lens[0]);
     }
-    printf("%016llx %llu %llu\n", (unsigned long long)value, (unsigned long long)bytes, (unsigned long long)best);
+}
+
+/* Measures one path, or searches among families. */
+int main(int argc, char **argv)
+{
+    if (argc < 4 || argc > 5 || (argc == 4) != (strcmp(argv[2], "search") == 0))
+        fail("usage: driver archive|plain PATH KIB ROUNDS, or driver archive|plain search LENGTH");
+    port = strcmp(argv[1], "archive") == 0 ? &archive : &plain;
+    if (argc == 4)
+        search(strtoul(argv[3], NULL, 10));
+    else
+        measure(argv[2], strtoul(argv[3], NULL, 10), strtoul(argv[4], NULL, 10));
     return 0;
 }

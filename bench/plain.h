@@ -1,6 +1,6 @@
 /*
- * The frame path in plain C, to measure the proved one against: the same calls as bg_take_line and bg_send_frame, each with the CRC
- * bit by bit and by a table. Parameters, answers and refusals are those of include/belagunthi.h.
+ * Both ends of the port in plain C, to measure the proved calls against: each plain_x has the parameters, answers, refusals and effects of
+ * bg_x in include/belagunthi.h. bench/peer.c compares the two.
  */
 #ifndef PLAIN_H
 #define PLAIN_H
@@ -8,16 +8,31 @@
 #include <stddef.h>
 #include <stdint.h>
 
-uint16_t plain_crc_bits(uint16_t crc, const uint8_t *bytes, size_t length);
-uint16_t plain_crc_table(uint16_t crc, const uint8_t *bytes, size_t length);
+/* plain_frame.c; built with PLAIN_CRC_BITS it computes the CRC bit by bit, else by a table. */
+
+uint16_t plain_crc(uint16_t crc, const uint8_t *bytes, size_t length);
 
 int plain_decode(const uint8_t *text, size_t length, uint8_t *raw);
 size_t plain_encode(const uint8_t *raw, size_t length, uint8_t *text);
 
-uint32_t plain_take_line_bits(uint32_t reader[4], const uint8_t *line, size_t line_len, uint8_t *packet, size_t packet_len, uint32_t *body);
-uint32_t plain_take_line_table(uint32_t reader[4], const uint8_t *line, size_t line_len, uint8_t *packet, size_t packet_len, uint32_t *body);
+uint32_t plain_take_line(uint32_t reader[4], const uint8_t *line, size_t line_len, uint8_t *packet, size_t packet_len, uint32_t *body);
 
-uint32_t plain_send_frame_bits(const uint8_t *body, size_t body_len, size_t k, uint8_t *out, size_t out_len, uint32_t sent[2]);
-uint32_t plain_send_frame_table(const uint8_t *body, size_t body_len, size_t k, uint8_t *out, size_t out_len, uint32_t sent[2]);
+uint32_t plain_send_frame(const uint8_t *body, size_t body_len, size_t k, uint8_t *out, size_t out_len, uint32_t sent[2]);
+
+/* plain_packet.c */
+
+uint32_t plain_configure(size_t start, size_t size, size_t memory_len, uint32_t session[4], uint8_t tag[32]);
+
+uint32_t plain_handle(uint8_t *memory, size_t memory_len, size_t start, size_t size, uint32_t session[4], uint8_t tag[32],
+                      const uint8_t *packet, size_t packet_len, uint8_t *reply, size_t reply_len, uint32_t answer[2]);
+
+uint32_t plain_write_echo(uint8_t sequence, const uint8_t *text, size_t text_len, uint8_t *out, size_t out_len, uint32_t *packet_len);
+
+uint32_t plain_write_upload(uint8_t sequence, const uint8_t *data, size_t data_len, uint64_t off, uint64_t length, const uint8_t *tag,
+                            size_t tag_len, uint8_t *out, size_t out_len, uint32_t *packet_len);
+
+uint32_t plain_read_reply(const uint8_t *packet, size_t packet_len, uint32_t reply[12]);
+
+uint8_t plain_next_sequence(uint8_t sequence);
 
 #endif

@@ -1,66 +1,120 @@
-"""Prints the benchmark's table and writes it with a plot: report.py FOLDER MARKDOWN SVG. Standard library only."""
+"""Prints the benchmark's tables and writes them with a plot: report.py FOLDER MARKDOWN SVG. Standard library only."""
+import os
 import sys
 import textwrap
+from collections import defaultdict, namedtuple
 
-PROGRAMS = [("archive", "archive"), ("bits", "C, CRC bit by bit"), ("table", "C, CRC by table"), ("rust", "Rust")]
-COLOURS = {"archive": "#1b5e8c", "bits": "#c96a12", "table": "#e8b25a", "rust": "#7a7a7a"}
-PATHS = [
-    ("send", "sender, bodies of 512"),
-    ("sendlong", "sender, bodies of 65,533"),
-    ("sendlong-open", "sender, long, no CRC"),
-    ("read", "reader, bodies of 512"),
-    ("readlong", "reader, bodies of 65,533"),
-    ("readlong-open", "reader, long, no CRC"),
-    ("crc", "CRC alone"),
-    ("reply", "upload replies read"),
-    ("echo", "echo replies read"),
-    ("pairs", "replies of 25 pairs read"),
-    ("handle", "echo requests handled"),
-    ("frames", "an upload's frames alone"),
-    ("upload", "whole upload"),
-]
-GROWING = [("send", "sender"), ("read", "reader"), ("upload", "whole upload")]
-SIZES = [64, 128, 256, 512, 1024]
-# The paths that the goal is judged by, each with the programs that it is held to.
-JUDGED = [
-    ("send", ["bits"]), ("sendlong", ["bits"]), ("sendlong-open", ["bits", "rust"]), ("read", ["bits"]),
-    ("readlong", ["bits"]), ("readlong-open", ["bits", "rust"]), ("reply", ["rust"]), ("echo", ["rust"]),
-    ("pairs", ["rust"]), ("handle", ["rust"]), ("frames", ["bits"]), ("upload", ["rust"]),
-]
-MAPS = ("the map walk keeps the nine fields of a map, 32 bytes each, by value, and copies them at each pair "
-        "(read from the code, not counted instruction by instruction)")
-# Why a path is above the goal, by the counts of single instructions, and the archive's count that this was seen at.
-WHY = {
-    "readlong-open": (14.61, "of 1,359 instructions a line of 93 raw bytes 959 are the decoding loop; outside it, the "
-                      "256-byte table of Base64 values is built on the stack and the raw buffer zeroed for each line, "
-                      "body bytes are copied by a loop in place of memcpy (122 with its checks), and 76 go to the "
-                      "record and the outer call"),
-    "reply": (41.06, MAPS),
-    "echo": (2.42, MAPS),
-    "pairs": (34.94, MAPS),
-    "upload": (155.09, "the CRC bit by bit, 54 for each byte sent and 54 for each byte read, against Rust's table"),
+PROGRAMS = [("archive", "archive"), ("gcc2", "C, gcc -O2"), ("gcc3", "C, gcc -O3"), ("clang3", "C, clang -O3"),
+            ("bits", "C, CRC bit by bit"), ("rust", "Rust")]
+NAMES = dict(PROGRAMS)
+# The builds of C with a table for the CRC, and all that the archive is held to.
+BUILDS = ["gcc2", "gcc3", "clang3"]
+OTHERS = BUILDS + ["rust"]
+PATHS = {
+    "send": "sender, bodies of 512",
+    "sendlong": "sender, bodies of 65,533",
+    "sendlong-open": "sender, long, no CRC",
+    "read": "reader, bodies of 512",
+    "readlong": "reader, bodies of 65,533",
+    "readlong-open": "reader, long, no CRC",
+    "crc": "CRC alone",
+    "reply": "upload replies read",
+    "echo": "echo replies read",
+    "pairs": "replies of 25 pairs read",
+    "handle": "echo requests handled",
+    "chunks": "upload requests handled",
+    "unknown": "requests of 24 unknown pairs",
+    "worst": "the costliest request",
+    "erase": "erase requests handled",
+    "frames": "an upload's frames alone",
+    "upload": "whole upload",
 }
+# The paths whose calls are counted too.
+CALLS = ["reply", "echo", "pairs", "handle", "chunks", "unknown", "worst", "erase"]
+# The paths with a CRC, each with the long paths that say what it costs.
+WITH_CRC = {"send": ["sendlong"], "sendlong": ["sendlong"], "read": ["readlong"], "readlong": ["readlong"],
+            "frames": ["sendlong", "readlong"], "upload": ["sendlong", "readlong"]}
+GROWING = {"send": "sender", "read": "reader", "upload": "whole upload"}
+SIZES = [64, 128, 256, 512, 1024]
+GROWN = ["archive", "gcc2", "rust"]
+PLOTTED = [("archive", "archive", "#1b5e8c"), ("c", "C, CRC by table, its best build", "#e8b25a"),
+           ("rust", "Rust", "#7a7a7a")]
+
+# A round of a path: its bytes, its calls, the bytes of packets over the line, and the instructions.
+Count = namedtuple("Count", "bytes calls framed instructions")
 
 
 def rows(path):
-    """The lines of a file, each cut at its tabs."""
+    """The lines of a file, each cut at its tabs; none where there is no file."""
+    if not os.path.exists(path):
+        return []
     with open(path, encoding="utf-8") as lines:
         return [line.rstrip("\n").split("\t") for line in lines]
 
 
-def load(folder):
-    """Instructions a byte by path, program and size; the best bytes per second by path and program; the tools."""
-    counts = {}
-    for path, program, size, length, counted in rows(folder + "/counts.tsv"):
-        counts[path, program, int(size)] = int(counted) / int(length)
-    speeds = {}
-    for path, program, length, best in rows(folder + "/times.tsv"):
-        speed = int(length) / (max(int(best), 1) / 1e9)
-        speeds[path, program] = max(speed, speeds.get((path, program), 0))
-    return counts, speeds, dict(rows(folder + "/tools.tsv"))
+class Measured:
+    """All that bench/run measured."""
+
+    def __init__(self, folder):
+        """Reads the files of a folder."""
+        self.folder = folder
+        self.counts = {(path, program, int(size)): Count(*map(int, numbers))
+                       for path, program, size, *numbers in rows(folder + "/counts.tsv")}
+        self.speeds = {}
+        for path, program, length, best in rows(folder + "/times.tsv"):
+            speed = int(length) / max(int(best), 1) * 1e3
+            self.speeds[path, program] = max(speed, self.speeds.get((path, program), 0))
+        self.tools = dict(rows(folder + "/tools.tsv"))
+        self.compared = sum(int(number) for _, number in rows(folder + "/peer.tsv"))
+        self.worst = rows(folder + "/worst.tsv")
+        self.families = len(rows(folder + "/search.tsv"))
+
+    def a_byte(self, path, program, size=1024):
+        """Instructions a byte, or nothing."""
+        count = self.counts.get((path, program, size))
+        return count and count.instructions / count.bytes
+
+    def a_call(self, path, program):
+        """Instructions a call, or nothing."""
+        count = self.counts.get((path, program, 1024))
+        return count and count.instructions / count.calls
+
+    def crc(self, side, program):
+        """What the last frame of each long body adds, to a byte of it: the CRC."""
+        return self.a_byte(side, program) - self.a_byte(side + "-open", program)
+
+    def less_crc(self, path, program):
+        """Instructions a byte, less what the CRC costs for the bytes that went over the line."""
+        count = self.counts[path, program, 1024]
+        cost = sum(self.crc(side, program) for side in WITH_CRC[path])
+        return self.a_byte(path, program) - cost * count.framed / count.bytes
+
+    def functions(self, path):
+        """The archive's instructions a byte by function, each function's own, from callgrind's file of the path.
+
+        A function without a name is called by its file's.
+        """
+        names, own, is_call = {}, defaultdict(int), False
+        for line in (row[0] for row in rows(f"{self.folder}/callgrind.{path}") if row[0]):
+            key, _, rest = line.partition("=")
+            if key in ("ob", "cob", "fn", "cfn"):
+                mark, _, name = rest.partition(" ")
+                name = names.setdefault((key[-2:], mark), name)
+                if key == "ob":
+                    file = os.path.basename(name)
+                elif key == "fn":
+                    current = file if name.startswith("0x") else name
+            elif key == "calls":
+                is_call = True
+            elif line[0] in "0123456789+-*":
+                # The line after a call has what was spent in the callee.
+                own[current] += 0 if is_call else int(line.split()[1])
+                is_call = False
+        length = self.counts[path, "archive", 1024].bytes
+        return sorted(((count / length, name) for name, count in own.items()), reverse=True)
 
 
-def number(value, form="{:.2f}"):
+def number(value, form="{:,.2f}"):
     """A number, or a dash where there is none."""
     return "-" if value is None else form.format(value)
 
@@ -76,98 +130,171 @@ def table(head, lines):
     return "\n".join([even(head), rule] + [even(line) for line in lines])
 
 
-def verdicts(counts):
-    """A line for each judged path: what it is held to, the ratio, and whether the goal is met."""
-    names = dict(PROGRAMS)
+def wrapped(text, indent=""):
+    """A paragraph or a point of a list, in lines."""
+    return textwrap.fill(" ".join(text.split()), 118, subsequent_indent=indent, break_long_words=False,
+                         break_on_hyphens=False)
+
+
+# A path held to the others: its name, the archive's instructions a byte, the best other's, and which that is.
+Verdict = namedtuple("Verdict", "path name own best which")
+
+
+def ratio(v):
+    """The archive's instructions to the best other's, with as many digits as say on which side of 1 it is."""
+    short = number(v.own / v.best)
+    return number(v.own / v.best, "{:.4f}") if short == "1.00" else short
+
+
+def verdict(path, name, value):
+    """The archive beside the best of the others, by a value for each program."""
+    which = min(OTHERS, key=value)
+    return Verdict(path, name, value("archive"), value(which), which)
+
+
+def met(v):
+    """The archive needs no more than the best other."""
+    return v.own <= v.best
+
+
+def goal(m):
+    """The table of the goal, how many paths meet it, and where the archive's instructions go on those that do not."""
+    plain = [verdict(path, name, lambda program: m.a_byte(path, program))
+             for path, name in PATHS.items() if m.a_byte(path, "archive")]
+    less = {path: verdict(path, "- less the CRC", lambda program: m.less_crc(path, program)) for path in WITH_CRC}
+    aside = [less.get(v.path, v) for v in plain]
+    lines = [line for v in plain for line in ([v, less[v.path]] if v.path in less else [v])]
+    cells = [[v.name, number(v.own), number(v.best), NAMES[v.which], ratio(v),
+              "met" if met(v) else "NOT met"] for v in lines]
+    text = [table(["path", "archive", "the best other", "which", "ratio", "goal"], cells), "",
+            f"Met on {sum(map(met, plain))} of {len(plain)} paths; the CRC aside, on {sum(map(met, aside))}."]
+    by_crc = [v.name for v, less_its in zip(plain, aside) if not met(v) and met(less_its)]
+    if by_crc:
+        text += ["", wrapped("Above it by the CRC alone: " + "; ".join(by_crc) + ".")]
+    missed = [v for v in aside if not met(v)]
+    if missed:
+        text += ["", wrapped("""Above it, the CRC aside, with the functions that take most of the archive's
+            instructions a byte (each function's own, by callgrind; what was inlined counts to its caller):"""), ""]
+    for v in missed:
+        most = ", ".join(f"`{name}` {number(count)}" for count, name in m.functions(v.path)[:4] if count >= 0.005)
+        text.append(wrapped(f"- {PATHS[v.path]}, {ratio(v)} times {NAMES[v.which]}: {most}.", "  "))
+    return "\n".join(text)
+
+
+def pair(family):
+    """A family in words: its command and its pair."""
+    command, digits = family.split("-")
+    two = [digits[i:i + 2] for i in range(0, len(digits), 2)]
+    return f"{command}, " + " ".join(two if len(two) <= 12 else two[:4] + [".."] + two[-2:])
+
+
+def costliest(m):
+    """What the search for the costliest request found."""
+    others = ", ".join(f"{NAMES[p]} {number(m.a_byte('worst', p))}" for p in OTHERS)
+    call = number(m.a_call("worst", "archive"), "{:,.0f}")
+    said = wrapped(f"""`bench/worst.py` tries {m.families:,} families of requests: one pair of an unknown key again and
+        again, as upload, echo, reset and erase; empty keys, keys of one character, keys that differ from a known one in
+        the last character, long ones; heads of all widths; values of all types. The one that costs the archive most by
+        the byte is {pair(m.worst[0][1])} (hexadecimal). At 65,533 bytes, which is the path "{PATHS["worst"]}", it takes
+        {call} instructions, {number(m.a_byte("worst", "archive"))} a byte; {others}. The costliest of each kind, in
+        requests of 4,096 bytes:""")
+    lines = [[kind, pair(name), archive, plain] for kind, name, archive, plain in m.worst]
+    return said + "\n\n" + table(["kind of pair", "the costliest", "archive", NAMES["gcc2"]], lines)
+
+
+def wall_clock(m):
+    """The times, where they were taken."""
+    if not m.speeds:
+        return "Not taken: the programs ran under an emulator."
+    lines = [[name] + [number(m.speeds.get((path, p)), "{:,.1f}") for p in NAMES] for path, name in PATHS.items()]
+    said = wrapped("""Millions of bytes a second, the best of 21 rounds (3 runs of 7, the programs in turns), on a machine
+        that other work may share: these vary from run to run, the counts above hardly.""")
+    return said + "\n\n" + table(["path"] + list(NAMES.values()), lines)
+
+
+def crc_share(m):
+    """What the CRC costs in each program, and of what."""
     lines = []
-    for path, others in JUDGED:
-        own = counts[path, "archive", 1024]
-        best = min(others, key=lambda other: counts[path, other, 1024])
-        ratio = own / counts[path, best, 1024]
-        which = "C" if path.endswith("-open") and best == "bits" else names[best]
-        lines.append([dict(PATHS)[path], number(own), number(counts[path, best, 1024]), which,
-                      number(ratio), "met" if ratio <= 1 else "NOT met"])
-    crc = {p: crc_cost(counts, p) for p in ("archive", "rust")}
-    own, other = (counts["upload", p, 1024] - sum(crc[p]) for p in ("archive", "rust"))
-    lines.append(["whole upload, less both CRCs", number(own), number(other), "Rust", number(own / other),
-                  "met" if own <= other else "NOT met"])
-    return lines
-
-
-def why(counts, name):
-    """Why a path is above the goal, where that was looked into at about this count."""
-    path = next((path for path, its in PATHS if its == name), None)
-    seen, reason = WHY.get(path, (0, ""))
-    there = path is not None and abs(counts[path, "archive", 1024] - seen) <= 0.01 * seen
-    return reason if there else "not looked into at this count"
-
-
-def crc_cost(counts, program):
-    """What the last frame of each long body adds, in the sender and in the reader, to a byte: the CRC."""
-    return [counts[p, program, 1024] - counts[p + "-open", program, 1024] for p in ("sendlong", "readlong")]
-
-
-def markdown(counts, speeds, tools):
-    """The whole text of the benchmark's page."""
-    head = ["path"] + [name for _, name in PROGRAMS]
-    instructions = [[name] + [number(counts.get((path, p, 1024))) for p, _ in PROGRAMS] for path, name in PATHS]
-    wall = [[name] + [number(None if (path, p) not in speeds else speeds[path, p] / 1e6, "{:.1f}")
-                      for p, _ in PROGRAMS] for path, name in PATHS]
-    growth = [[f"{name}, {title}"] + [number(counts[path, p, size]) for size in SIZES]
-              for path, name in GROWING for p, title in PROGRAMS if (path, p, 64) in counts]
-    crc = []
     for p, name in PROGRAMS:
-        cost = crc_cost(counts, p)
-        share = [100 * c / counts[path, p, 1024] for c, path in zip(cost, ("sendlong", "readlong"))]
-        crc.append([name] + [number(c) for c in cost] + [number(s, "{:.0f} %") for s in share])
-    judged = verdicts(counts)
-    missed = [textwrap.fill(f"- {line[0]}, {line[4]} times {line[3]}: {why(counts, line[0])}.", 118,
-                            subsequent_indent="  ") for line in judged if line[5] != "met"]
-    spread = max((max(v) / min(v), path, p) for path, _ in GROWING for p in ("archive", "rust")
-                 for v in [[counts[path, p, size] for size in SIZES]])
+        sides = [(m.crc(side, p), m.a_byte(side, p)) for side in ("sendlong", "readlong")]
+        lines.append([name] + [number(cost) for cost, _ in sides] + [f"{100 * cost / all_:.0f} %" for cost, all_ in sides])
+    return table(["program", "sender", "reader", "of the sender", "of the reader"], lines)
+
+
+def growth(m):
+    """Instructions a byte by the image's size, and their widest spread."""
+    values = {f"{name}, {NAMES[p]}": [m.a_byte(path, p, size) for size in SIZES]
+              for path, name in GROWING.items() for p in GROWN}
+    spread, name = max((max(each) / min(each), name) for name, each in values.items())
+    said = wrapped(f"""Instructions a byte by the image's KiB, of three of the programs; the widest spread is {spread:.3f}
+        ({name}).""")
+    lines = [[name] + [number(value) for value in each] for name, each in values.items()]
+    return said + "\n\n" + table(["path, program"] + [str(size) for size in SIZES], lines)
+
+
+def begun(m):
+    """The page's first paragraph."""
+    return wrapped(f"""`bench/run` builds programs of the same behaviour and measures them on the same buffers: the proved
+        archive, the port in plain C (`bench/plain_frame.c`, `bench/plain_packet.c`) in three builds, and the second program
+        in Rust. It compares what they produce, path by path, and fails where they disagree; in this run
+        they agreed on all paths. `bench/peer.c` compares each plain C call with the archive's on generated inputs, valid
+        and damaged, every lent byte and number: {m.compared:,} calls in this run, no difference, every refusal and rc
+        met. C and Rust compute the CRC by a table; one more build of C, to know the share, bit by bit.""")
+
+
+def tools_used(m):
+    """The compilers and tools, and where the programs ran."""
+    where = f"x86-64 programs, run by {m.tools['emulator']}, callgrind too" if m.tools["emulator"] else "x86-64"
+    return wrapped(f"""- gcc {m.tools["gcc"]} and clang {m.tools["clang"]}, no link-time optimization; rustc
+        {m.tools["rustc"]}, cargo's release profile with overflow checks and debug assertions off (the second program's own
+        profile has them on); {m.tools["valgrind"]}; {where}.""", "  ")
+
+
+def markdown(m):
+    """The whole text of the benchmark's page."""
+    instructions = [[name] + [number(m.a_byte(path, p)) for p in NAMES] for path, name in PATHS.items()]
+    calls = [[PATHS[path]] + [number(m.a_call(path, p), "{:,.0f}") for p in ["archive"] + OTHERS] for path in CALLS]
     return f"""# Benchmark
 
-`bench/run` builds three programs of the same behaviour and measures them on the same buffers: the proved archive,
-the second program in Rust, and the frame path in plain C. It compares what they produce, path by path, and fails where
-they disagree; in this run they agreed on all paths. The archive's CRC is computed bit by bit, Rust's by a table, C's
-both ways.
+{begun(m)}
 
 ## Instructions a byte
 
-{table(head, instructions)}
+{table(["path"] + list(NAMES.values()), instructions)}
 
 ![Instructions a byte, and how they grow](benchmark.svg)
 
+## Instructions a call
+
+A count by the byte hides what a call costs by itself.
+
+{table(["path", "archive"] + [NAMES[p] for p in OTHERS], calls)}
+
 ## Goal
 
-No path above 1.0 times the better of the two others in instructions a byte, the bitwise CRC aside. So paths with the
-CRC are held to the C that computes it bit by bit too; paths without it to the better of C and Rust; maps and the whole
-upload to Rust, as there is no C for them. In the whole upload Rust has its table; the last line takes from both what
-the CRC costs for each byte of the image, once sent and once read (the share below).
+No path above 1.0 times the best of the others in instructions a byte: C with a table for the CRC, in each of its three
+builds, and Rust. For a path with a CRC a second line takes from each program what the CRC costs it for the bytes that go
+over the line (the share below): the goal with the CRC aside.
 
-{table(["path", "archive", "the other", "which", "ratio", "goal"], judged)}
-
-{"Not met:" + "".join(chr(10) + line for line in missed) if missed else "Met on every path."}
+{goal(m)}
 
 ## The CRC's share
 
 What the last frame of each body of 65,533 bytes adds, which is where the CRC is computed (and one frame of 705):
 
-{table(["program", "sender", "reader", "of the sender", "of the reader"], crc)}
+{crc_share(m)}
+
+## The costliest request
+
+{costliest(m)}
 
 ## Growth
 
-Instructions a byte by the image's KiB; the widest spread of the archive and Rust is {spread[0]:.3f}
-({dict(GROWING)[spread[1]]}, {dict(PROGRAMS)[spread[2]]}).
-
-{table(["path, program"] + [str(size) for size in SIZES], growth)}
+{growth(m)}
 
 ## Wall clock
 
-Millions of bytes a second, the best of 21 rounds (3 runs of 7, the programs in turns), on a machine that other work
-shares: these vary from run to run, the counts above hardly.
-
-{table(head, wall)}
+{wall_clock(m)}
 
 ## How it was measured
 
@@ -176,78 +303,81 @@ shares: these vary from run to run, the counts above hardly.
   "No CRC": the last frame of each body is left out, and with it the CRC in all programs.
 - Maps: a byte is a byte of the packet that is read. Upload replies: those of a whole upload, about 22 bytes each.
   Echoes: 2,000 texts of 256 bytes. Replies of 25 pairs: 2,000 maps with 24 unknown pairs of 7 bytes before the rc.
+  Requests of 24 unknown pairs: 2,000 of them, in turn echoes, with a text after the same pairs, and resets.
+- Upload requests: the image's chunks in packets of 512 bytes, without the line; the session is open already, so that no
+  slot is filled. Erase requests: four of 9 bytes; a byte is a byte of the slot, which is as large as the image. The
+  costliest request: one of 65,533 bytes, handled 16 times, with a slot of one byte.
 - Whole upload: requests of 480 data bytes, each written, sent, read, handled, and its reply sent, read and read as a
   reply; a byte is a byte of the image. In the end the slot is compared with the image. "Frames alone": the same
   requests and replies, written beforehand, sent and read.
 - Instructions: one round under callgrind, counted only inside the measured function, so that start-up, setting up and
   digests are out. The drivers' loops (some instructions a line or packet), memcpy, and malloc in the Rust program
-  are in. A memcpy's count may depend on the processor's features.
+  are in. The counts of memcpy and memset may depend on the processor's features, and callgrind counts an instruction
+  that repeats itself each time: a slot of 1 MiB may be filled by one such.
 - Buffers are allocated and touched before the rounds. Nothing is cleared between rounds: caches stay warm, and output
   buffers hold the last round's bytes. The processor's frequency is not fixed.
-- gcc {tools["gcc"]} -O2, no link-time optimization; rustc {tools["rustc"]}, cargo's release profile with overflow
-  checks and debug assertions off (the second program's own profile has them on); {tools["valgrind"]}; x86-64.
+{tools_used(m)}
 """
 
 
-def bars(counts, put):
+def bars(m, put):
     """The bars of instructions a byte; gives the height after them."""
-    y, left, width = 78, 190, 560
-    most = max(v for (_, _, size), v in counts.items() if size == 1024)
-    for path, name in PATHS:
-        there = [p for p, _ in PROGRAMS if (path, p, 1024) in counts]
+    y, left, width = 78, 210, 540
+    shown = {(path, p): min(m.a_byte(path, build) for build in BUILDS) if p == "c" else m.a_byte(path, p)
+             for path in PATHS for p, _, _ in PLOTTED}
+    most = max(value for value in shown.values() if value)
+    for path, name in PATHS.items():
+        there = [(shown[path, p], colour) for p, _, colour in PLOTTED if shown[path, p]]
         put(f'<text x="{left - 8}" y="{y + 6 * len(there) + 4}" text-anchor="end">{name}</text>')
-        for p in there:
-            value = counts[path, p, 1024]
+        for value, colour in there:
             long = width * value / most
-            put(f'<rect x="{left}" y="{y}" width="{long:.1f}" height="11" fill="{COLOURS[p]}"/>')
+            put(f'<rect x="{left}" y="{y}" width="{long:.1f}" height="11" fill="{colour}"/>')
             put(f'<text x="{left + long + 4:.1f}" y="{y + 9}" font-size="10">{value:.1f}</text>')
             y += 12
         y += 9
     return y
 
 
-def lines(counts, put, top):
+def lines(m, put, top):
     """The growth lines, a panel for each path; gives the height after them."""
-    most = 1.15 * max(counts[path, p, s] for path, _ in GROWING for p, _ in PROGRAMS for s in SIZES
-                      if (path, p, s) in counts)
+    colours = dict(zip(GROWN, (colour for _, _, colour in PLOTTED)))
+    most = 1.15 * max(m.a_byte(path, p, size) for path in GROWING for p in GROWN for size in SIZES)
     height, wide = 170, 200
-    title = "Growth: instructions a byte by KiB of image"
+    title = f"Growth: instructions a byte by KiB of image ({NAMES[GROWN[1]]})"
     put(f'<text x="20" y="{top + 22}" font-size="14" font-weight="bold">{title}</text>')
     top += 50
-    for panel, (path, name) in enumerate(GROWING):
+    for panel, (path, name) in enumerate(GROWING.items()):
         left = 60 + panel * (wide + 60)
         put(f'<text x="{left + wide / 2}" y="{top - 8}" text-anchor="middle">{name}</text>')
         put(f'<path d="M{left} {top} V{top + height} H{left + wide}" fill="none" stroke="#444"/>')
-        for step in range(0, int(most) + 1, 50):
+        for step in range(0, int(most) + 1, 50 if most > 100 else 10):
             y = top + height - height * step / most
             put(f'<path d="M{left - 4} {y:.1f} H{left}" stroke="#444"/>')
             put(f'<text x="{left - 7}" y="{y + 4:.1f}" text-anchor="end" font-size="10">{step}</text>')
         for i, size in enumerate(SIZES):
             put(f'<text x="{left + 10 + i * 45}" y="{top + height + 15}" text-anchor="middle" '
                 f'font-size="10">{size}</text>')
-        for p, _ in PROGRAMS:
-            if (path, p, 64) not in counts:
-                continue
-            points = [(left + 10 + i * 45, top + height - height * counts[path, p, s] / most)
-                      for i, s in enumerate(SIZES)]
+        for p in GROWN:
+            points = [(left + 10 + i * 45, top + height - height * m.a_byte(path, p, size) / most)
+                      for i, size in enumerate(SIZES)]
             joined = " ".join(f"{x},{y:.1f}" for x, y in points)
-            put(f'<polyline points="{joined}" fill="none" stroke="{COLOURS[p]}" stroke-width="2"/>')
+            put(f'<polyline points="{joined}" fill="none" stroke="{colours[p]}" stroke-width="2"/>')
             for x, y in points:
-                put(f'<circle cx="{x}" cy="{y:.1f}" r="3" fill="{COLOURS[p]}"/>')
+                put(f'<circle cx="{x}" cy="{y:.1f}" r="3" fill="{colours[p]}"/>')
     return top + height + 30
 
 
-def svg(counts):
+def svg(m):
     """The plot: bars of each path and program, and the growth lines."""
     parts = []
     put = parts.append
     put('<text x="20" y="26" font-size="14" font-weight="bold">Instructions a byte, image of 1 MiB</text>')
-    x = 190
-    for p, name in PROGRAMS:
-        put(f'<rect x="{x}" y="44" width="12" height="12" fill="{COLOURS[p]}"/>')
+    x = 210
+    for _, name, colour in PLOTTED:
+        put(f'<rect x="{x}" y="44" width="12" height="12" fill="{colour}"/>')
         put(f'<text x="{x + 17}" y="54">{name}</text>')
         x += 40 + 7 * len(name)
-    height = lines(counts, put, bars(counts, put))
+    height = lines(m, put, bars(m, put))
     head = f'<svg xmlns="http://www.w3.org/2000/svg" viewBox="0 0 860 {height}" width="860" height="{height}"'
     return (head + ' font-family="sans-serif" font-size="12" fill="#222">\n'
             f'<rect width="860" height="{height}" fill="#fff"/>\n' + "\n".join(parts) + "\n</svg>\n")
@@ -256,12 +386,12 @@ def svg(counts):
 def main():
     """Reads the measurements and writes the page and the plot."""
     folder, page, plot = sys.argv[1:]
-    counts, speeds, tools = load(folder)
-    text = markdown(counts, speeds, tools)
+    m = Measured(folder)
+    text = markdown(m)
     with open(page, "w", encoding="utf-8") as out:
         out.write(text)
     with open(plot, "w", encoding="utf-8") as out:
-        out.write(svg(counts))
+        out.write(svg(m))
     print(text[text.index("## Instructions"):text.index("## How it")])
 
 

@@ -1,23 +1,30 @@
-//! Measures the second program: bench PATH KIB ROUNDS. See bench/driver.c, whose paths, sizes and buffers these are.
+//! Measures the second program: bench PATH KIB ROUNDS. See bench/driver.c, whose paths, sizes, buffers and output these are.
 
 use second::{crc, port};
-use std::hint::black_box;
+use std::sync::atomic::{compiler_fence, Ordering};
 use std::time::Instant;
 
 const STRIDE: usize = 128;
 const PACKET: usize = 1024;
 const BODY: usize = 512;
-const LONG_BODY: usize = 65_533;
+const LONGEST: usize = 65_533;
 const DATA: usize = 480;
 const TEXT: usize = 256;
 const PAIRS: usize = 24;
 const MAPS: usize = 2000;
+const CHUNK: usize = 512;
+const BEFORE_LAST: usize = 65_000;
+const ERASES: usize = 4;
 const LINE: usize = 127;
+
+/// The digest of no bytes.
+const NO_BYTES: u64 = 14_695_981_039_346_656_037;
 
 /// All that the paths read and write.
 struct World {
     image: Vec<u8>,
     memory: Vec<u8>,
+    slot_size: usize,
     body_size: usize,
     leave_last: usize,
     lines: Vec<u8>,
@@ -28,6 +35,10 @@ struct World {
     requests: Vec<u8>,
     request_lens: Vec<u32>,
     request_count: usize,
+    request_stride: usize,
+    first_request: usize,
+    begun: [u32; 4],
+    begun_tag: [u8; 32],
     replies: Vec<u8>,
     reply_lens: Vec<u32>,
     reply_count: usize,
@@ -35,12 +46,28 @@ struct World {
     come: Vec<u8>,
     back: Vec<u8>,
     sum: u64,
+    family: String,
+}
+
+/// What a path produced: its digest, and for one round the bytes, the calls, and the bytes of packets over the line.
+struct Produced {
+    digest: u64,
+    bytes: usize,
+    calls: usize,
+    framed: usize,
 }
 
 /// Ends with one line where a call was refused or a result is wrong.
 fn fail(what: &str) -> ! {
     eprintln!("bench: {what}");
     std::process::exit(1)
+}
+
+/// Lent memory, all 0, that is touched before it is measured.
+fn touched(bytes: usize) -> Vec<u8> {
+    let mut room = vec![1; bytes];
+    room.fill(0);
+    room
 }
 
 /// The length of the body that starts at a place of the image: 0 where under 8 bytes are left.
@@ -84,7 +111,7 @@ fn run_read(w: &mut World) {
     w.out_len = 0;
     for i in 0..w.line_count {
         let line = &w.lines[i * STRIDE..i * STRIDE + w.line_lens[i] as usize];
-        if port::take_line(&mut reader, line, &mut w.out[w.out_len..w.out_len + LONG_BODY], &mut body) != 0 {
+        if port::take_line(&mut reader, line, &mut w.out[w.out_len..w.out_len + LONGEST], &mut body) != 0 {
             fail("a line was refused");
         }
         w.out_len += body as usize;
@@ -94,12 +121,13 @@ fn run_read(w: &mut World) {
 /// The CRC alone of every body.
 fn run_crc(w: &mut World) {
     let mut at = 0;
+    w.sum = 0;
     loop {
         let length = body_at(w, at);
         if length == 0 {
             break;
         }
-        w.sum += crc::crc16(black_box(&w.image[at..at + length])) as u64;
+        w.sum += crc::crc16(&w.image[at..at + length]) as u64;
         at += length;
     }
 }
@@ -114,19 +142,16 @@ fn run_reply(w: &mut World) {
     }
 }
 
-/// Handles every request.
+/// Handles every request from the first on.
 fn run_handle(w: &mut World) {
-    let mut session = [0; 4];
-    let mut tag = [0; 32];
+    let mut session = w.begun;
+    let mut tag = w.begun_tag;
     let mut answer = [0; 2];
-    let size = w.image.len();
-    if port::configure(0, size, size, &mut session, &mut tag) != 0 {
-        fail("the slot was refused");
-    }
-    for i in 0..w.request_count {
-        let at = i * PACKET;
+    let size = w.slot_size;
+    for i in w.first_request..w.request_count {
+        let at = i * w.request_stride;
         let request = &w.requests[at..at + w.request_lens[i] as usize];
-        let reply = &mut w.replies[at..at + PACKET];
+        let reply = &mut w.replies[i * PACKET..(i + 1) * PACKET];
         if port::handle(&mut w.memory, 0, size, &mut session, &mut tag, request, reply, &mut answer) != 0 {
             fail("a request was refused");
         }
@@ -146,7 +171,7 @@ fn pass(packet: &[u8], to: &mut [u8]) -> usize {
         if port::send_frame(packet, k, &mut line[..LINE], &mut sent) != 0 {
             fail("a frame was refused");
         }
-        if port::take_line(&mut reader, &line[..sent[0] as usize], &mut to[..LONG_BODY], &mut body) != 0 {
+        if port::take_line(&mut reader, &line[..sent[0] as usize], &mut to[..LONGEST], &mut body) != 0 {
             fail("a line was refused");
         }
         k += 1;
@@ -164,7 +189,7 @@ fn run_frames(w: &mut World) {
     }
 }
 
-/// Uploads the image: write, send, read, handle, send, read, read the reply; keeps packets where it is not framed.
+/// Uploads the image: write, send, read, handle, send, read, read the reply; without the line it records requests and replies.
 fn upload(w: &mut World, framed: bool) {
     let mut request = [0; PACKET];
     let mut reply = [0; PACKET];
@@ -196,19 +221,20 @@ fn upload(w: &mut World, framed: bool) {
             fail("a request was refused");
         }
         let mut read = &reply[..answer[0] as usize];
+        let count = w.request_count;
         if framed {
             let back = pass(read, &mut w.back);
             read = &w.back[..back];
         } else {
-            let at = w.request_count * PACKET;
+            let at = count * PACKET;
             w.requests[at..at + got.len()].copy_from_slice(got);
-            w.request_lens[w.request_count] = length;
             w.replies[at..at + read.len()].copy_from_slice(read);
-            w.reply_lens[w.request_count] = answer[0];
         }
         if port::read_reply(read, &mut numbers) != 0 || numbers[6] != 0 || numbers[8] as usize <= off {
             fail("a reply is not as it has to be");
         }
+        w.request_lens[count] = length;
+        w.reply_lens[count] = answer[0];
         off = numbers[8] as usize;
         sequence = port::next_sequence(sequence);
         w.request_count += 1;
@@ -220,6 +246,14 @@ fn upload(w: &mut World, framed: bool) {
 fn run_upload(w: &mut World) {
     upload(w, true)
 }
+
+/// Records the requests and replies of an upload.
+fn make_upload(w: &mut World) {
+    upload(w, false)
+}
+
+/// Nothing has to be there before.
+fn make_nothing(_: &mut World) {}
 
 /// Writes the echo requests.
 fn make_echoes(w: &mut World) {
@@ -233,20 +267,120 @@ fn make_echoes(w: &mut World) {
     w.request_count = MAPS;
 }
 
-/// Writes replies whose map has other pairs before its rc.
+/// Writes the echo replies.
+fn make_echo_replies(w: &mut World) {
+    make_echoes(w);
+    run_handle(w)
+}
+
+/// Writes an upload's requests, each with as much data as a packet of 512 bytes takes, and handles the first, which sets the slot to 255.
+fn make_chunks(w: &mut World) {
+    let size = w.image.len();
+    let mut off = 0;
+    w.request_count = 0;
+    while off < size {
+        let count = w.request_count;
+        let out = &mut w.requests[count * PACKET..count * PACKET + CHUNK];
+        let length = &mut w.request_lens[count];
+        let mut data = CHUNK.min(size - off);
+        while data > 0 {
+            let chunk = &w.image[off..off + data];
+            if port::write_upload(count as u8, chunk, off as u64, size as u64, &[7; 32], out, length) == 0 {
+                break;
+            }
+            data -= 1;
+        }
+        if data == 0 {
+            fail("an upload was refused");
+        }
+        off += data;
+        w.request_count += 1;
+    }
+    let mut answer = [0; 2];
+    let request = &w.requests[..w.request_lens[0] as usize];
+    let reply = &mut w.replies[..PACKET];
+    if port::handle(&mut w.memory, 0, size, &mut w.begun, &mut w.begun_tag, request, reply, &mut answer) != 0
+    {
+        fail("a request was refused");
+    }
+    w.reply_lens[0] = answer[0];
+    w.first_request = 1;
+}
+
+/// A map of unknown pairs, with a count of its own.
+fn unknown(i: usize, count: usize) -> Vec<u8> {
+    let mut map = vec![0xB8, count as u8];
+    for j in 0..PAIRS {
+        map.extend([0x63, b'k', b'a' + j as u8, b'x', 0x19, (i >> 8 | 1) as u8, i as u8]);
+    }
+    map
+}
+
+/// Puts a packet of a header and a map to a place; gives its length.
+fn put_packet(to: &mut [u8], op: u8, group: u8, sequence: usize, command: u8, map: &[u8]) -> u32 {
+    let length = map.len();
+    to[..8].copy_from_slice(&[op, 0, (length >> 8) as u8, length as u8, 0, group, sequence as u8, command]);
+    to[8..8 + length].copy_from_slice(map);
+    8 + length as u32
+}
+
+/// Writes replies whose map has unknown pairs before its rc.
 fn make_pairs(w: &mut World) {
     for i in 0..MAPS {
-        let mut map = vec![0xB8, PAIRS as u8 + 1];
-        for j in 0..PAIRS {
-            map.extend([0x63, b'k', b'a' + j as u8, b'x', 0x19, (i >> 8 | 1) as u8, i as u8]);
-        }
+        let mut map = unknown(i, PAIRS + 1);
         map.extend([0x62, b'r', b'c', (i % 20) as u8]);
-        let mut packet = vec![3, 0, (map.len() >> 8) as u8, map.len() as u8, 0, 1, i as u8, 1];
-        packet.extend(map);
-        w.replies[i * PACKET..i * PACKET + packet.len()].copy_from_slice(&packet);
-        w.reply_lens[i] = packet.len() as u32;
+        w.reply_lens[i] = put_packet(&mut w.replies[i * PACKET..], 3, 1, i, 1, &map);
     }
     w.reply_count = MAPS;
+}
+
+/// Writes requests whose map has unknown pairs: in turn an echo, with its text after them, and a reset.
+fn make_unknown(w: &mut World) {
+    for i in 0..MAPS {
+        let echo = i % 2 == 0;
+        let mut map = unknown(i, PAIRS + echo as usize);
+        if echo {
+            map.extend([0x61, b'd', 0x61, b'a' + (i % 26) as u8]);
+        }
+        let command = if echo { 0 } else { 5 };
+        w.request_lens[i] = put_packet(&mut w.requests[i * PACKET..], 2, 0, i, command, &map);
+    }
+    w.request_count = MAPS;
+}
+
+/// Writes erase requests.
+fn make_erases(w: &mut World) {
+    for i in 0..ERASES {
+        w.request_lens[i] = put_packet(&mut w.requests[i * PACKET..], 2, 1, i, 5, &[0xA0]);
+    }
+    w.request_count = ERASES;
+}
+
+/// Writes one request of a family, as long as a request may be; it is handled again and again, with a slot of one byte, so that none is
+/// filled.
+fn make_fill(w: &mut World) {
+    let mut words = w.family.split('-');
+    let (group, command) = match words.next() {
+        Some("echo") => (0, 0),
+        Some("reset") => (0, 5),
+        Some("upload") => (1, 1),
+        Some("erase") => (1, 5),
+        _ => fail("no such command"),
+    };
+    let hex = words.next().unwrap_or("").as_bytes();
+    let digit = |c: u8| (c as char).to_digit(16).unwrap_or_else(|| fail("a pair is hexadecimal")) as u8;
+    let pair: Vec<u8> = hex.chunks_exact(2).map(|two| digit(two[0]) << 4 | digit(two[1])).collect();
+    if pair.len() < 2 {
+        fail("a pair has two bytes or more");
+    }
+    let count = (LONGEST - 11) / pair.len();
+    let mut map = vec![0xB9, (count >> 8) as u8, count as u8];
+    map.extend(pair.repeat(count));
+    let length = put_packet(&mut w.requests, 2, group, 0, command, &map);
+    w.request_count = w.image.len() / 65536;
+    w.request_lens[..w.request_count].fill(length);
+    w.request_stride = 0;
+    w.slot_size = 1;
 }
 
 /// Adds bytes to a digest (FNV-1a).
@@ -254,10 +388,10 @@ fn digest(value: u64, bytes: &[u8]) -> u64 {
     bytes.iter().fold(value, |value, byte| (value ^ *byte as u64).wrapping_mul(1_099_511_628_211))
 }
 
-/// Adds packets or lines of a stride to a digest.
-fn digest_all(value: u64, bytes: &[u8], lens: &[u32], stride: usize) -> u64 {
+/// A digest of packets or lines of a stride.
+fn digest_all(bytes: &[u8], lens: &[u32], stride: usize) -> u64 {
     let each = lens.iter().enumerate();
-    each.fold(value, |value, (i, length)| digest(value, &bytes[i * stride..i * stride + *length as usize]))
+    each.fold(NO_BYTES, |value, (i, length)| digest(value, &bytes[i * stride..i * stride + *length as usize]))
 }
 
 /// The lengths' sum.
@@ -265,26 +399,110 @@ fn total(lens: &[u32]) -> usize {
     lens.iter().map(|length| *length as usize).sum()
 }
 
+/// What was sent: the lines.
+fn sent_lines(w: &World) -> Produced {
+    let digest = digest_all(&w.lines, &w.line_lens[..w.line_count], STRIDE);
+    let framed = if w.leave_last == 0 { w.image.len() } else { 0 };
+    Produced { digest, bytes: w.image.len(), calls: w.line_count, framed }
+}
+
+/// What was read: the bodies; or, without the last frames, what stands of the last long one.
+fn read_bodies(w: &World) -> Produced {
+    let open = w.leave_last == 1;
+    let read = &w.out[..if open { BEFORE_LAST } else { w.out_len }];
+    let framed = if open { 0 } else { w.image.len() };
+    Produced { digest: digest(NO_BYTES, read), bytes: w.image.len(), calls: w.line_count, framed }
+}
+
+/// The CRCs.
+fn computed_crcs(w: &World) -> Produced {
+    let bytes = w.image.len();
+    Produced { digest: w.sum, bytes, calls: (bytes + w.body_size - 1) / w.body_size, framed: bytes }
+}
+
+/// What was read in the replies.
+fn read_replies(w: &World) -> Produced {
+    let lens = &w.reply_lens[..w.reply_count];
+    let numbers = w.numbers_read[..w.reply_count].iter().flatten();
+    let sum = numbers.fold(0u64, |sum, number| sum.wrapping_mul(31).wrapping_add(*number as u64));
+    let digest = digest_all(&w.replies, lens, PACKET) ^ sum;
+    Produced { digest, bytes: total(lens), calls: w.reply_count, framed: 0 }
+}
+
+/// The replies to the requests, and the slot.
+fn answered(w: &World) -> Produced {
+    let digest = digest(digest_all(&w.replies, &w.reply_lens[..w.reply_count], PACKET), &w.memory);
+    let lens = &w.request_lens[w.first_request..w.request_count];
+    Produced { digest, bytes: total(lens), calls: lens.len(), framed: 0 }
+}
+
+/// The replies to the erases, and the slot, whose bytes are counted.
+fn erased(w: &World) -> Produced {
+    let answered = answered(w);
+    Produced { bytes: answered.calls * w.slot_size, ..answered }
+}
+
+/// The bytes of all requests and replies.
+fn framed(w: &World) -> usize {
+    total(&w.request_lens[..w.request_count]) + total(&w.reply_lens[..w.reply_count])
+}
+
+/// The packets that came over the line.
+fn passed(w: &World) -> Produced {
+    let digest = digest(NO_BYTES, &w.out[..w.out_len]);
+    Produced { digest, bytes: w.image.len(), calls: w.request_count, framed: framed(w) }
+}
+
+/// The slot, which has to hold the image.
+fn uploaded(w: &World) -> Produced {
+    if w.memory != w.image {
+        fail("the slot does not hold the image");
+    }
+    Produced {
+        digest: digest(NO_BYTES, &w.memory),
+        bytes: w.image.len(),
+        calls: w.request_count,
+        framed: framed(w),
+    }
+}
+
 /// One round: what callgrind counts.
 #[no_mangle]
 #[inline(never)]
 fn measured(run: fn(&mut World), w: &mut World) {
-    run(black_box(w));
-    black_box(w);
+    run(w);
+    compiler_fence(Ordering::SeqCst);
 }
 
-/// A path's round.
-type Run = fn(&mut World);
+/// A path: what is made before, one round, what it produced; the bodies' length, and whether the last frames are left out.
+type Path = (fn(&mut World), fn(&mut World), fn(&World) -> Produced, usize, usize);
 
-/// Sets up one path, runs its rounds and prints what came of it.
-fn main() {
-    let words: Vec<String> = std::env::args().collect();
-    if words.len() != 4 {
-        fail("usage: bench PATH KIB ROUNDS");
+/// The path of this name.
+fn path_of(name: &str) -> Path {
+    match name {
+        "send" => (make_nothing, run_send, sent_lines, BODY, 0),
+        "sendlong" => (make_nothing, run_send, sent_lines, LONGEST, 0),
+        "sendlong-open" => (make_nothing, run_send, sent_lines, LONGEST, 1),
+        "read" => (run_send, run_read, read_bodies, BODY, 0),
+        "readlong" => (run_send, run_read, read_bodies, LONGEST, 0),
+        "readlong-open" => (run_send, run_read, read_bodies, LONGEST, 1),
+        "crc" => (make_nothing, run_crc, computed_crcs, BODY, 0),
+        "reply" => (make_upload, run_reply, read_replies, 0, 0),
+        "echo" => (make_echo_replies, run_reply, read_replies, 0, 0),
+        "pairs" => (make_pairs, run_reply, read_replies, 0, 0),
+        "handle" => (make_echoes, run_handle, answered, 0, 0),
+        "chunks" => (make_chunks, run_handle, answered, 0, 0),
+        "unknown" => (make_unknown, run_handle, answered, 0, 0),
+        "erase" => (make_erases, run_handle, erased, 0, 0),
+        "frames" => (make_upload, run_frames, passed, 0, 0),
+        "upload" => (make_nothing, run_upload, uploaded, 0, 0),
+        _ if name.starts_with("fill-") => (make_fill, run_handle, answered, 0, 0),
+        _ => fail("no such path"),
     }
-    let path = words[1].as_str();
-    let size = words[2].parse::<usize>().unwrap_or_else(|_| fail("KIB is no number")) * 1024;
-    let rounds = words[3].parse::<usize>().unwrap_or_else(|_| fail("ROUNDS is no number"));
+}
+
+/// The buffers, touched before they are measured, and the image of a fixed seed.
+fn set_up(size: usize, body_size: usize, leave_last: usize, family: &str) -> World {
     let packets = size / DATA + MAPS + 1;
     let mut state: u64 = 88_172_645_463_325_252;
     let mut next = || {
@@ -293,89 +511,51 @@ fn main() {
         state ^= state << 17;
         (state >> 32) as u8
     };
-    let mut w = World {
+    World {
         image: (0..size).map(|_| next()).collect(),
-        memory: vec![1; size],
-        body_size: if path.contains("long") { LONG_BODY } else { BODY },
-        leave_last: path.contains("-open") as usize,
-        lines: vec![1; (size / 64 + 16) * STRIDE],
+        memory: touched(size),
+        slot_size: size,
+        body_size,
+        leave_last,
+        lines: touched((size / 64 + 16) * STRIDE),
         line_lens: vec![1; size / 64 + 16],
         line_count: 0,
-        out: vec![1; 2 * size + 2 * 65536],
+        out: touched(2 * size + 2 * 65536),
         out_len: 0,
-        requests: vec![1; packets * PACKET],
+        requests: touched(packets * PACKET),
         request_lens: vec![1; packets],
         request_count: 0,
-        replies: vec![1; packets * PACKET],
+        request_stride: PACKET,
+        first_request: 0,
+        begun: [0; 4],
+        begun_tag: [0; 32],
+        replies: touched(packets * PACKET),
         reply_lens: vec![1; packets],
         reply_count: 0,
         numbers_read: vec![[1; 12]; packets],
-        come: vec![1; 65536],
-        back: vec![1; 65536],
+        come: touched(65536),
+        back: touched(65536),
         sum: 0,
-    };
-    let run: Run = match path {
-        "send" | "sendlong" | "sendlong-open" => run_send,
-        "read" | "readlong" | "readlong-open" => {
-            run_send(&mut w);
-            run_read
-        }
-        "crc" => run_crc,
-        "frames" => {
-            upload(&mut w, false);
-            run_frames
-        }
-        "upload" => run_upload,
-        "reply" => {
-            upload(&mut w, false);
-            run_reply
-        }
-        "echo" => {
-            make_echoes(&mut w);
-            run_handle(&mut w);
-            run_reply
-        }
-        "pairs" => {
-            make_pairs(&mut w);
-            run_reply
-        }
-        "handle" => {
-            make_echoes(&mut w);
-            run_handle
-        }
-        _ => fail("no such path"),
-    };
+        family: family.to_string(),
+    }
+}
 
+/// Sets up one path, runs its rounds and prints what came of it.
+fn main() {
+    let words: Vec<String> = std::env::args().collect();
+    if words.len() != 4 {
+        fail("usage: bench PATH KIB ROUNDS");
+    }
+    let number = |word: &str| word.parse::<usize>().unwrap_or_else(|_| fail("KIB and ROUNDS are numbers"));
+    let (make, run, produced, body_size, leave_last) = path_of(&words[1]);
+    let mut w = set_up(number(&words[2]) * 1024, body_size, leave_last, words[1].trim_start_matches("fill-"));
+    make(&mut w);
     let mut best = u128::MAX;
-    for _ in 0..rounds {
-        w.sum = 0;
+    for _ in 0..number(&words[3]) {
         let from = Instant::now();
         measured(run, &mut w);
         best = best.min(from.elapsed().as_nanos());
     }
-
-    let start = 14_695_981_039_346_656_037;
-    let replies = digest_all(start, &w.replies, &w.reply_lens[..w.reply_count], PACKET);
-    let (value, bytes) = match path {
-        "send" | "sendlong" | "sendlong-open" => {
-            (digest_all(start, &w.lines, &w.line_lens[..w.line_count], STRIDE), size)
-        }
-        "readlong-open" => (digest(start, &w.out[..w.out_len]), size),
-        "read" | "readlong" => (digest(start, &w.out[..w.out_len]), w.out_len),
-        "frames" => (digest(start, &w.out[..w.out_len]), size),
-        "upload" => {
-            if w.memory != w.image {
-                fail("the slot does not hold the image");
-            }
-            (digest(start, &w.memory), size)
-        }
-        "handle" => (replies, total(&w.request_lens[..w.request_count])),
-        "crc" => (w.sum, size),
-        _ => {
-            let numbers = w.numbers_read[..w.reply_count].iter().flatten();
-            let sum = numbers.fold(0u64, |sum, number| sum.wrapping_mul(31).wrapping_add(*number as u64));
-            (replies ^ sum, total(&w.reply_lens[..w.reply_count]))
-        }
-    };
-    println!("{value:016x} {bytes} {best}");
+    let Produced { digest, bytes, calls, framed } = produced(&w);
+    println!("{digest:016x} {bytes} {calls} {framed} {best}");
 }

@@ -1,10 +1,12 @@
 /* The frame path in plain C: see plain.h. */
 #include "plain.h"
 
+#include <stdbool.h>
 #include <string.h>
 
 enum { LINE = 127, RAW = 93, BODY_MIN = 8, BODY_MAX = 65533, ONE_FRAME_BELOW = 89, FIRST = 91 };
 
+#ifndef PLAIN_CRC_BITS
 static const uint16_t crc_table[256] = {
     0x0000, 0x1021, 0x2042, 0x3063, 0x4084, 0x50A5, 0x60C6, 0x70E7, 0x8108, 0x9129, 0xA14A, 0xB16B,
     0xC18C, 0xD1AD, 0xE1CE, 0xF1EF, 0x1231, 0x0210, 0x3273, 0x2252, 0x52B5, 0x4294, 0x72F7, 0x62D6,
@@ -29,6 +31,7 @@ static const uint16_t crc_table[256] = {
     0xEF1F, 0xFF3E, 0xCF5D, 0xDF7C, 0xAF9B, 0xBFBA, 0x8FD9, 0x9FF8, 0x6E17, 0x7E36, 0x4E55, 0x5E74,
     0x2E93, 0x3EB2, 0x0ED1, 0x1EF0,
 };
+#endif
 
 /* The value of each Base64 character; 64 for all other bytes. */
 static const uint8_t base64_value[256] = {
@@ -52,22 +55,19 @@ static const uint8_t base64_value[256] = {
 
 static const char base64_character[] = "ABCDEFGHIJKLMNOPQRSTUVWXYZabcdefghijklmnopqrstuvwxyz0123456789+/";
 
-/* The CRC after more bytes, bit by bit. */
-uint16_t plain_crc_bits(uint16_t crc, const uint8_t *bytes, size_t length)
+/* The CRC after more bytes: by the table, or bit by bit in a build that asks for it. */
+uint16_t plain_crc(uint16_t crc, const uint8_t *bytes, size_t length)
 {
+#ifdef PLAIN_CRC_BITS
     for (size_t i = 0; i < length; i++) {
         crc ^= (uint16_t)(bytes[i] << 8);
         for (int bit = 0; bit < 8; bit++)
             crc = (uint16_t)(crc & 0x8000 ? crc << 1 ^ 0x1021 : crc << 1);
     }
-    return crc;
-}
-
-/* The CRC after more bytes, by the table. */
-uint16_t plain_crc_table(uint16_t crc, const uint8_t *bytes, size_t length)
-{
+#else
     for (size_t i = 0; i < length; i++)
         crc = (uint16_t)(crc << 8 ^ crc_table[(crc >> 8 ^ bytes[i]) & 0xFF]);
+#endif
     return crc;
 }
 
@@ -114,10 +114,11 @@ size_t plain_encode(const uint8_t *raw, size_t length, uint8_t *text)
     size_t at;
 
     for (at = 0; at + 3 <= length; at += 3) {
-        *to++ = (uint8_t)base64_character[raw[at] >> 2];
-        *to++ = (uint8_t)base64_character[(raw[at] << 4 | raw[at + 1] >> 4) & 63];
-        *to++ = (uint8_t)base64_character[(raw[at + 1] << 2 | raw[at + 2] >> 6) & 63];
-        *to++ = (uint8_t)base64_character[raw[at + 2] & 63];
+        uint32_t group = (uint32_t)raw[at] << 16 | (uint32_t)raw[at + 1] << 8 | raw[at + 2];
+        *to++ = (uint8_t)base64_character[group >> 18];
+        *to++ = (uint8_t)base64_character[group >> 12 & 63];
+        *to++ = (uint8_t)base64_character[group >> 6 & 63];
+        *to++ = (uint8_t)base64_character[group & 63];
     }
     if (at + 1 == length) {
         *to++ = (uint8_t)base64_character[raw[at] >> 2];
@@ -133,8 +134,6 @@ size_t plain_encode(const uint8_t *raw, size_t length, uint8_t *text)
     return (size_t)(to - text);
 }
 
-typedef uint16_t crc_function(uint16_t crc, const uint8_t *bytes, size_t length);
-
 /* Makes the record idle and passes a refusal on. */
 static uint32_t drop(uint32_t reader[4], uint32_t refusal)
 {
@@ -142,67 +141,59 @@ static uint32_t drop(uint32_t reader[4], uint32_t refusal)
     return refusal;
 }
 
-/* Takes one line, with a CRC of either kind. */
-static inline uint32_t take_line(uint32_t reader[4], const uint8_t *line, size_t line_len, uint8_t *packet, size_t packet_len, uint32_t *body,
-                                 crc_function *crc)
+/* A frame's body and CRC bytes, and the packet that they belong to: its total, the bytes come before, the first CRC byte where it came. */
+struct frame {
+    uint32_t total, come, first, count;
+    const uint8_t *bytes;
+};
+
+/* The packet that an initial frame begins; returns 0, or refusal 6. */
+static uint32_t begin(struct frame *frame)
 {
-    uint8_t raw[RAW];
-    const uint8_t *bytes = raw;
-    uint32_t total, come, first;
+    if (frame->count < 2)
+        return 6;
+    frame->total = (uint32_t)frame->bytes[0] << 8 | frame->bytes[1];
+    frame->come = 0;
+    frame->first = 0;
+    frame->bytes += 2;
+    frame->count -= 2;
+    return frame->total < BODY_MIN + 2 ? 6 : 0;
+}
 
-    if (line_len > LINE)
-        return 2;
-    if (line_len < 3 || line[line_len - 1] != 0x0A)
-        return 3;
-    int initial = line[0] == 0x06 && line[1] == 0x09;
-    if (!initial && !(line[0] == 0x04 && line[1] == 0x14))
-        return 3;
+/* The packet that a partial frame goes on with; returns 0, or refusal 5. */
+static uint32_t resume(struct frame *frame, const uint32_t reader[4])
+{
+    frame->total = reader[1];
+    frame->come = reader[2];
+    frame->first = reader[3];
+    if (reader[0] == 0 || frame->total < BODY_MIN + 2 || frame->total > BODY_MAX + 2)
+        return 5;
+    return frame->come >= frame->total || frame->first > 255 ? 5 : 0;
+}
 
-    int length = plain_decode(line + 2, line_len - 3, raw);
-    if (length < 0)
-        return drop(reader, 4);
-
-    if (initial) {
-        if (length < 2)
-            return drop(reader, 6);
-        total = (uint32_t)raw[0] << 8 | raw[1];
-        if (total < BODY_MIN + 2)
-            return drop(reader, 6);
-        come = 0;
-        first = 0;
-        bytes += 2;
-        length -= 2;
-    } else {
-        total = reader[1];
-        come = reader[2];
-        first = reader[3];
-        if (reader[0] == 0 || total < BODY_MIN + 2 || total > BODY_MAX + 2 || come >= total || first > 255)
-            return 5;
-    }
-
-    uint32_t body_len = total - 2, count = (uint32_t)length;
+/* Puts a frame's bytes to the packet and the record; returns 0 with the body's length where it is complete, else 0, or refusal 7, 8 or 9. */
+static uint32_t add(const struct frame *frame, uint32_t reader[4], uint8_t *packet, size_t packet_len, uint32_t *body)
+{
+    const uint8_t *bytes = frame->bytes;
+    uint32_t total = frame->total, body_len = total - 2, come = frame->come + frame->count;
     if (body_len > packet_len)
         return drop(reader, 7);
-    if (count > total - come)
+    if (frame->count > total - frame->come)
         return drop(reader, 8);
 
     /* How many of this frame's bytes are the body's; the rest, at most two, are the CRC's. */
-    uint32_t left = come < body_len ? body_len - come : 0;
-    uint32_t carried = count < left ? count : left;
-    uint32_t place = come < body_len ? come : body_len;
-    come += count;
+    uint32_t place = frame->come < body_len ? frame->come : body_len;
+    uint32_t carried = frame->count < body_len - place ? frame->count : body_len - place;
     if (come == total) {
-        uint16_t own = crc(crc(0, packet, place), bytes, carried);
-        uint16_t came = (uint16_t)(count - carried == 2 ? bytes[carried] << 8 | bytes[carried + 1] : (int)first << 8 | bytes[carried]);
-        if (own != came)
+        uint32_t first = frame->count - carried == 2 ? bytes[carried] : frame->first;
+        uint16_t own = plain_crc(plain_crc(0, packet, place), bytes, carried);
+        if (own != (first << 8 | bytes[frame->count - 1]))
             return drop(reader, 9);
     }
-    if (carried > 0)
-        memcpy(packet + place, bytes, carried);
+    memcpy(packet + place, bytes, carried);
     if (come == total) {
-        drop(reader, 0);
         *body = body_len;
-        return 0;
+        return drop(reader, 0);
     }
     reader[0] = 1;
     reader[1] = total;
@@ -212,16 +203,27 @@ static inline uint32_t take_line(uint32_t reader[4], const uint8_t *line, size_t
     return 0;
 }
 
-/* Takes one line; the CRC is computed bit by bit. */
-uint32_t plain_take_line_bits(uint32_t reader[4], const uint8_t *line, size_t line_len, uint8_t *packet, size_t packet_len, uint32_t *body)
+/* Takes one line. */
+uint32_t plain_take_line(uint32_t reader[4], const uint8_t *line, size_t line_len, uint8_t *packet, size_t packet_len, uint32_t *body)
 {
-    return take_line(reader, line, line_len, packet, packet_len, body, plain_crc_bits);
-}
+    uint8_t raw[RAW];
+    if (line_len > LINE)
+        return 2;
+    if (line_len < 3 || line[line_len - 1] != 0x0A)
+        return 3;
+    bool initial = line[0] == 0x06 && line[1] == 0x09;
+    if (!initial && !(line[0] == 0x04 && line[1] == 0x14))
+        return 3;
 
-/* Takes one line; the CRC is computed by the table. */
-uint32_t plain_take_line_table(uint32_t reader[4], const uint8_t *line, size_t line_len, uint8_t *packet, size_t packet_len, uint32_t *body)
-{
-    return take_line(reader, line, line_len, packet, packet_len, body, plain_crc_table);
+    int length = plain_decode(line + 2, line_len - 3, raw);
+    if (length < 0)
+        return drop(reader, 4);
+    struct frame frame = {.count = (uint32_t)length, .bytes = raw};
+    if (initial && begin(&frame) != 0)
+        return drop(reader, 6);
+    if (!initial && resume(&frame, reader) != 0)
+        return 5;
+    return add(&frame, reader, packet, packet_len, body);
 }
 
 /* The number of frames that a body is cut into. */
@@ -234,9 +236,8 @@ static size_t frame_count(size_t body_len)
     return 2 + (body_len - 2 * FIRST + RAW - 1) / RAW;
 }
 
-/* Writes one frame of a body, with a CRC of either kind. */
-static inline uint32_t send_frame(const uint8_t *body, size_t body_len, size_t k, uint8_t *out, size_t out_len, uint32_t sent[2],
-                                  crc_function *crc)
+/* Writes one frame of a body. */
+uint32_t plain_send_frame(const uint8_t *body, size_t body_len, size_t k, uint8_t *out, size_t out_len, uint32_t sent[2])
 {
     uint8_t raw[RAW];
     size_t used = 0, place, carried;
@@ -263,7 +264,7 @@ static inline uint32_t send_frame(const uint8_t *body, size_t body_len, size_t k
     memcpy(raw + used, body + place, carried);
     used += carried;
     if (k == count - 1) {
-        uint16_t own = crc(0, body, body_len);
+        uint16_t own = plain_crc(0, body, body_len);
         raw[used++] = (uint8_t)(own >> 8);
         raw[used++] = (uint8_t)own;
     }
@@ -275,16 +276,4 @@ static inline uint32_t send_frame(const uint8_t *body, size_t body_len, size_t k
     sent[0] = (uint32_t)length;
     sent[1] = (uint32_t)count;
     return 0;
-}
-
-/* Writes one frame of a body; the CRC is computed bit by bit. */
-uint32_t plain_send_frame_bits(const uint8_t *body, size_t body_len, size_t k, uint8_t *out, size_t out_len, uint32_t sent[2])
-{
-    return send_frame(body, body_len, k, out, out_len, sent, plain_crc_bits);
-}
-
-/* Writes one frame of a body; the CRC is computed by the table. */
-uint32_t plain_send_frame_table(const uint8_t *body, size_t body_len, size_t k, uint8_t *out, size_t out_len, uint32_t sent[2])
-{
-    return send_frame(body, body_len, k, out, out_len, sent, plain_crc_table);
 }
