@@ -1,6 +1,6 @@
 -- Every string among the fields of a map that was read lies within the bytes that it was read from.
 -- Assumes nothing.
-use mathlib.Core.Path.{_≡_, refl, _∙_}
+use mathlib.Core.Path.{_≡_, refl}
 use mathlib.Core.Bool.{not}
 use mathlib.Core.List.{List}
 use mathlib.Core.Option.{Option, none, some}
@@ -9,7 +9,6 @@ use native.Mathlib.Decide.{decLe}
 use native.Mathlib.Omega.{arith}
 use lib.Dec.{ltb, eqb}
 use lib.ListN.{length, getD, set, take, drop, length-set}
-use lib.Seq.{getD-set-same, getD-set-other}
 use borrow.Author.Tests.{eqb-true, not-false}
 use Rattle.laws.specs.Parts.{Within}
 use Rattle.laws.proofs.Choice.{pick-case}
@@ -24,6 +23,7 @@ use Rattle.map.specs.declared.Kind.{Kind}
 use Rattle.map.specs.declared.Key.{Key}
 use Rattle.map.specs.Keys.{keyOf, typeOf, typeFor, listed}
 use Rattle.map.specs.Fields.{indexOf, placeOf, nothing, there, firstOf, secondOf, stored, runIn}
+use Rattle.map.proofs.Fields.{key-index, three-second, three-third, three-other}
 use Rattle.map.specs.Walk.{
   Found,
   malformed,
@@ -70,7 +70,7 @@ string-inside s (Text start len) t a b e h = h
 string-inside s (Flag x) t a b e h = absurd (omega arith)
 string-inside s Null t a b e h = absurd (omega arith)
 
--- the first three keys hold strings, and there are ten
+-- the first three keys hold strings
 string-key : (k : Key) → indexOf k < 3 → (2 ≤ typeFor k) × (typeFor k ≤ 3)
 unfolding indexOf typeFor
 string-key Key.Text h = (omega arith, omega arith)
@@ -83,35 +83,6 @@ string-key Key.Upgrade h = absurd (omega arith)
 string-key Key.Slot h = absurd (omega arith)
 string-key Key.Rc h = absurd (omega arith)
 string-key Key.Other h = absurd (omega arith)
-
-key-index : (k : Key) → indexOf k ≤ 9
-unfolding indexOf
-key-index Key.Text = omega arith
-key-index Key.Data = omega arith
-key-index Key.Sha = omega arith
-key-index Key.Off = omega arith
-key-index Key.Len = omega arith
-key-index Key.Image = omega arith
-key-index Key.Upgrade = omega arith
-key-index Key.Slot = omega arith
-key-index Key.Rc = omega arith
-key-index Key.Other = omega arith
-
--- three numbers stored from a place on: the second and the third are read back, and what stands beside them stays
-module _ (f : List ℕ) (at x y : ℕ) where
-  three-second : at + 2 < length f → getD (set (set (set f at 1) (at + 1) x) (at + 2) y) (at + 1) 0 ≡ x
-  three-second h =
-      getD-set-other (set (set f at 1) (at + 1) x) (at + 2) (at + 1) y 0 (λ e. omega arith)
-      ∙ getD-set-same (set f at 1) (at + 1) x 0 (simp length-set (omega arith))
-
-  three-third : at + 2 < length f → getD (set (set (set f at 1) (at + 1) x) (at + 2) y) (at + 2) 0 ≡ y
-  three-third h = getD-set-same (set (set f at 1) (at + 1) x) (at + 2) y 0 (simp length-set h)
-
-  three-other : (i : ℕ) → (i ≡ at → ⊥) → (i ≡ at + 1 → ⊥) → (i ≡ at + 2 → ⊥) → getD (set (set (set f at 1) (at + 1) x) (at + 2) y) i 0 ≡ getD f i 0
-  three-other i a b c =
-      getD-set-other (set (set f at 1) (at + 1) x) (at + 2) i y 0 c
-      ∙ getD-set-other (set f at 1) (at + 1) i x 0 b
-      ∙ getD-set-other f at i 1 0 a
 
 -- a value stored under a key of its type
 stored-sound : (s f : List ℕ) (k : Key) (v : Value) → typeOf v ≡ typeFor k → Inside s v → Sound s f → Sound s (stored k v f)

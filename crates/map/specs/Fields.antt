@@ -2,11 +2,12 @@
 -- others are what it holds: a number, and 0; false or true as 0 or 1, and 0; or where a string starts in the packet, and its length. So a
 -- field holds what its key's type says, and is absent only where its key is.
 -- Assumes nothing.
-use Prim.Native.Nat.{ℕ, _+_, _*_}
+use Prim.Native.Nat.{ℕ, _+_, _*_, _<_}
+use mathlib.Core.Path.{_≡_}
 use mathlib.Core.Bool.{Bool, true, false, not}
 use mathlib.Core.List.{List}
 use lib.Dec.{eqb}
-use lib.ListN.{getD, set, replicate}
+use lib.ListN.{length, getD, set, replicate}
 use Rattle.laws.specs.Choice.{pick}
 use Rattle.laws.specs.declared.Number.{Number}
 use Rattle.laws.specs.declared.Run.{Run}
@@ -74,3 +75,20 @@ runIn f k = pick (there k f) (Run.At (getD f (placeOf k + 1) 0) (getD f (placeOf
 
 unfoldable pub flagIn : List ℕ → Key → Bool
 flagIn f k = pick (there k f) (eqb (getD f (placeOf k + 1) 0) 1) false
+
+-- what is shown of the fields: no two keys have one place
+abbrev pub KeysApart : Type 0
+KeysApart = (j k : Key) → indexOf j ≡ indexOf k → j ≡ k
+
+-- what is stored under a key is read there
+abbrev pub StoredBack : Type 0
+StoredBack =
+    (k : Key) (v : Value) (f : List ℕ) → length f ≡ 30
+    → (there k (stored k v f) ≡ true)
+    × (getD (stored k v f) (placeOf k + 1) 0 ≡ firstOf v)
+    × (getD (stored k v f) (placeOf k + 2) 0 ≡ secondOf v)
+
+-- and what stands under the other keys stays
+abbrev pub OthersStay : Type 0
+OthersStay =
+    (j k : Key) (v : Value) (f : List ℕ) → (j ≡ k → ⊥) → (a : ℕ) → a < 3 → getD (stored k v f) (placeOf j + a) 0 ≡ getD f (placeOf j + a) 0
