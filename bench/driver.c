@@ -503,7 +503,7 @@ static const struct path *path_of(const char *name)
     return NULL;
 }
 
-/* One round: what callgrind counts. */
+/* One round: what is counted (bench/count.c). */
 __attribute__((noipa)) void measured(void (*run)(void))
 {
     run();

@@ -2,7 +2,7 @@
 import os
 import sys
 import textwrap
-from collections import defaultdict, namedtuple
+from collections import namedtuple
 
 PROGRAMS = [("archive", "archive"), ("gcc2", "C, gcc -O2"), ("gcc3", "C, gcc -O3"), ("clang3", "C, clang -O3"),
             ("bits", "C, CRC bit by bit"), ("rust", "Rust")]
@@ -90,28 +90,10 @@ class Measured:
         return self.a_byte(path, program) - cost * count.framed / count.bytes
 
     def functions(self, path):
-        """The archive's instructions a byte by function, each function's own, from callgrind's file of the path.
-
-        A function without a name is called by its file's.
-        """
-        names, own, is_call = {}, defaultdict(int), False
-        for line in (row[0] for row in rows(f"{self.folder}/callgrind.{path}") if row[0]):
-            key, _, rest = line.partition("=")
-            if key in ("ob", "cob", "fn", "cfn"):
-                mark, _, name = rest.partition(" ")
-                name = names.setdefault((key[-2:], mark), name)
-                if key == "ob":
-                    file = os.path.basename(name)
-                elif key == "fn":
-                    current = file if name.startswith("0x") else name
-            elif key == "calls":
-                is_call = True
-            elif line[0] in "0123456789+-*":
-                # The line after a call has what was spent in the callee.
-                own[current] += 0 if is_call else int(line.split()[1])
-                is_call = False
+        """The archive's instructions a byte by function, each function's own, the most first."""
+        lines = (row[0].split(" ", 2) for row in rows(f"{self.folder}/functions.archive.{path}"))
         length = self.counts[path, "archive", 1024].bytes
-        return sorted(((count / length, name) for name, count in own.items()), reverse=True)
+        return sorted(((int(count) / length, *name) for what, count, *name in lines if what == "function"), reverse=True)
 
 
 def number(value, form="{:,.2f}"):
@@ -174,7 +156,7 @@ def goal(m):
     missed = [v for v in aside if not met(v)]
     if missed:
         text += ["", wrapped("""Above it, the CRC aside, with the functions that take most of the archive's
-            instructions a byte (each function's own, by callgrind; what was inlined counts to its caller):"""), ""]
+            instructions a byte (each function's own; what was inlined counts to its caller):"""), ""]
     for v in missed:
         most = ", ".join(f"`{name}` {number(count)}" for count, name in m.functions(v.path)[:4] if count >= 0.005)
         text.append(wrapped(f"- {PATHS[v.path]}, {ratio(v)} times {NAMES[v.which]}: {most}.", "  "))
@@ -205,7 +187,7 @@ def costliest(m):
 def wall_clock(m):
     """The times, where they were taken."""
     if not m.speeds:
-        return "Not taken: the programs ran under an emulator."
+        return "Not taken: the archive is x86-64 code, and on this machine an emulator ran it."
     lines = [[name] + [number(m.speeds.get((path, p)), "{:,.1f}") for p in NAMES] for path, name in PATHS.items()]
     said = wrapped("""Millions of bytes a second, the best of 21 rounds (3 runs of 7, the programs in turns), on a machine
         that other work may share: these vary from run to run, the counts above hardly.""")
@@ -244,10 +226,9 @@ def begun(m):
 
 def tools_used(m):
     """The compilers and tools, and where the programs ran."""
-    where = f"x86-64 programs, run by {m.tools['emulator']}, callgrind too" if m.tools["emulator"] else "x86-64"
     return wrapped(f"""- gcc {m.tools["gcc"]} and clang {m.tools["clang"]}, no link-time optimization; rustc
         {m.tools["rustc"]}, cargo's release profile with overflow checks and debug assertions off (the second program's own
-        profile has them on); {m.tools["valgrind"]}; {where}.""", "  ")
+        profile has them on); qemu {m.tools["qemu"]}; x86-64 programs on a machine of {m.tools["machine"]}.""", "  ")
 
 
 def markdown(m):
@@ -310,10 +291,10 @@ What the last frame of each body of 65,533 bytes adds, which is where the CRC is
 - Whole upload: requests of 480 data bytes, each written, sent, read, handled, and its reply sent, read and read as a
   reply; a byte is a byte of the image. In the end the slot is compared with the image. "Frames alone": the same
   requests and replies, written beforehand, sent and read.
-- Instructions: one round under callgrind, counted only inside the measured function, so that start-up, setting up and
-  digests are out. The drivers' loops (some instructions a line or packet), memcpy, and malloc in the Rust program
-  are in. The counts of memcpy and memset may depend on the processor's features, and callgrind counts an instruction
-  that repeats itself each time: a slot of 1 MiB may be filled by one such.
+- Instructions: one round under qemu, counted by a plugin (`bench/count.c`) only inside the measured function, so that
+  start-up, setting up and digests are out. The drivers' loops (some instructions a line or packet), memcpy, and malloc
+  in the Rust program are in. The counts of memcpy and memset depend on the features of the processor that qemu shows,
+  and an instruction that repeats itself is counted each time: a slot of 1 MiB may be filled by one such.
 - Buffers are allocated and touched before the rounds. Nothing is cleared between rounds: caches stay warm, and output
   buffers hold the last round's bytes. The processor's frequency is not fixed.
 {tools_used(m)}

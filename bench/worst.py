@@ -1,6 +1,7 @@
-"""Searches for the request that costs most: worst.py FOLDER CALLGRIND..
+"""Searches for the request that costs most: worst.py FOLDER COUNTING..
 
-FOLDER is where bench/run has built its drivers; CALLGRIND.. is callgrind's command. A family is a command and one pair
+FOLDER is where bench/run has built its drivers; COUNTING.. are the words that run a program and count its instructions
+(bench/count.c), to which a file and the program's words are added. A family is a command and one pair
 of an unknown key, which a request has again and again. One request of each family is handled by the archive and by the
 plain C of gcc -O2. FOLDER/search.tsv gets a line for each family, FOLDER/worst.tsv one for each kind of pair, with the
 family that costs the archive most, the costliest first: the kind, the family, the instructions a byte of the archive
@@ -45,26 +46,14 @@ def families():
     return found
 
 
-def counted(path):
-    """The instructions of each dump that was made after the measured function."""
-    totals = []
-    with open(path, encoding="utf-8") as lines:
-        for line in lines:
-            if line.startswith("desc: Trigger:"):
-                after = "--dump-after=" in line
-            elif line.startswith("summary:") and after:
-                totals.append(int(line.split()[1]))
-    return totals
-
-
-def measure(folder, callgrind, program, names):
+def measure(folder, counting, program, names):
     """The instructions a byte of each family in one program."""
-    out = folder + "/callgrind.search"
-    words = [f"--callgrind-out-file={out}", "--toggle-collect=measured", "--dump-after=measured", "--combine-dumps=yes",
-             folder + "/driver-gcc2", program, "search", str(LENGTH)]
-    said = subprocess.run(callgrind + words, input="\n".join(names), capture_output=True, text=True)
+    out = folder + "/functions.search"
+    words = counting + [out, folder + "/driver-gcc2", program, "search", str(LENGTH)]
+    said = subprocess.run(words, input="\n".join(names), capture_output=True, text=True)
     lines = [line.split() for line in said.stdout.splitlines()]
-    totals = counted(out)
+    with open(out, encoding="utf-8") as counts:
+        totals = [int(line.split()[1]) for line in counts if line.startswith("round ")]
     if said.returncode != 0 or len(lines) != len(names) or len(totals) != len(names):
         sys.exit(f"worst: {program}: {len(lines)} of {len(names)} families, {len(totals)} counts\n{said.stderr[-500:]}")
     return {name: total / int(length) for (name, length), total in zip(lines, totals)}
@@ -72,9 +61,9 @@ def measure(folder, callgrind, program, names):
 
 def main():
     """Measures all families in both programs and writes the costliest of each kind."""
-    folder, callgrind = sys.argv[1], sys.argv[2:]
+    folder, counting = sys.argv[1], sys.argv[2:]
     kinds = families()
-    archive, plain = (measure(folder, callgrind, program, list(kinds)) for program in ("archive", "plain"))
+    archive, plain = (measure(folder, counting, program, list(kinds)) for program in ("archive", "plain"))
     ordered = sorted(kinds, key=archive.get, reverse=True)
     most = {}
     for name in ordered:

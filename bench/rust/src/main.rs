@@ -466,7 +466,7 @@ fn uploaded(w: &World) -> Produced {
     }
 }
 
-/// One round: what callgrind counts.
+/// One round: what is counted (bench/count.c).
 #[no_mangle]
 #[inline(never)]
 fn measured(run: fn(&mut World), w: &mut World) {
