@@ -104,6 +104,21 @@ pub value-none : (s : List ℕ) → valueAfter s Head.Malformed ≡ Item.Malform
 unfolding valueAfter
 value-none s = refl
 
+-- a head of major type 7 begins no value
+value-high : (s : List ℕ) (b at : ℕ) → 0xDF < b → valueAfter s (headAfter s b at) ≡ Item.Malformed
+unfolding headAfter
+value-high s b at h =
+    let P : Head → Type 0 = λ x. valueAfter s x ≡ Item.Malformed in
+    let other : (n next : ℕ) → valueAfter s (Head.Is (b / 32) n next) ≡ Item.Malformed =
+    λ n next. value-other s (b / 32) n next (omega arith) (omega arith) (omega arith) (omega arith) in
+    pick-case P (ltb (b % 32) 24) _ _
+    (λ i. other _ _)
+    (λ i. pick-case P (ltb 27 (b % 32)) _ _
+    (λ j. value-none s)
+    (λ j. pick-case P (ltb (length s - at) (widthOf (b % 32))) _ _
+    (λ k. value-none s)
+    (λ k. other _ _)))
+
 -- past the end there is no item
 pub item-past : (s : List ℕ) (at : ℕ) → length s ≤ at → itemAt s at ≡ Item.Malformed
 unfolding itemAt
@@ -134,6 +149,12 @@ pub item-head : (s : List ℕ) (at : ℕ) → at < length s → (getD s at 0 ≡
     → itemAt s at ≡ valueAfter s (headAt s at)
 unfolding itemAt
 item-head s at h a b c = simp (lt-ltb _ _ h, ne-eqb _ _ a, ne-eqb _ _ b, ne-eqb _ _ c, pick-no)
+
+-- of major type 7 there are no other items
+pub item-high : (s : List ℕ) (at : ℕ) → at < length s → 0xDF < getD s at 0 → (getD s at 0 ≡ 0xF4 → ⊥) → (getD s at 0 ≡ 0xF5 → ⊥)
+    → (getD s at 0 ≡ 0xF6 → ⊥) → itemAt s at ≡ Item.Malformed
+item-high s at h k a b c =
+    item-head s at h a b c ∙ ap (λ (x : Head). valueAfter s x) (head-there s at h) ∙ value-high s (getD s at 0) (at + 1) k
 
 -- the five low bits of a shortest head's initial byte
 unfoldable pub infoOf : ℕ → ℕ

@@ -101,6 +101,17 @@ read-turn n i w at s h k =
     let next : at + (i + 1) ≡ suc (at + i) = omega arith in
     rw (e, next, drop-cons s (at + i) 0 (omega arith))
 
+-- the first byte is read
+pub read-first : (w at : ℕ) (s : List ℕ) → 1 ≤ w → at + w ≤ length s → beAfter (getD s at 0) (take (w - 1) (drop (at + 1) s))
+    ≡ beAfter 0 (take w (drop at s))
+read-first w at s h k =
+    let here : at + 0 ≡ at = omega arith in
+    let all : w - 0 ≡ w = omega arith in
+    let byte : getD s at 0 ≡ 0 * 256 + getD s (at + 0) 0 = rw here (omega arith) in
+    ap (λ (n : ℕ). beAfter n (take (w - 1) (drop (at + 1) s))) byte
+    ∙ read-turn 0 0 w at s (omega arith) k
+    ∙ ap₂ (λ (w at : ℕ). beAfter 0 (take w (drop at s))) all here
+
 -- a byte stored before what was written is written with it
 pub pasted-before : (m : List ℕ) (j b : ℕ) (x : List ℕ) → j + 1 + length x ≤ length m → set (pasted m (j + 1) x) j b ≡ pasted m j (b ∷ x)
 unfolding pasted

@@ -3,7 +3,7 @@
 ghost use mathlib.Core.Path.{_≡_};
 ghost use Prim.Native.Nat.{_+_, _≤_, _<_};
 ghost use mathlib.Core.List.{_∷_};
-ghost use lib.ListN.{length, take, drop};
+ghost use lib.ListN.{length, getD, take, drop};
 ghost use Rattle.cbor.specs.Read.{beAfter, widthOf, headAt, stringFrom, valueAfter, itemAt};
 ghost use Rattle.cbor.specs.Write.{beBytes, headOf};
 ghost use Rattle.laws.specs.Bytes.{pasted};
@@ -39,7 +39,7 @@ pub enum Item {
 // How many bytes follow an initial byte with these five low bits.
 fn width_of(info: u8) -> usize
     requires { ⌜ (24 ≤ info) × (info ≤ 27) ⌝ }
-    ensures { λ r. ⌜ (r ≡ widthOf info) × (r ≤ 8) ⌝ }
+    ensures { λ r. ⌜ (r ≡ widthOf info) × (1 ≤ r) × (r ≤ 8) ⌝ }
 {
     if info == 24 {
         return 1;
@@ -55,11 +55,15 @@ fn width_of(info: u8) -> usize
 
 // The number in w bytes of s from place at on, the high one first.
 fn number_at(s: &[u8], at: usize, w: usize) -> u64
-    requires { ⌜ (w ≤ 8) × (at + w ≤ length (now s)) ⌝ }
+    requires { ⌜ (1 ≤ w) × (w ≤ 8) × (at + w ≤ length (now s)) ⌝ }
     ensures { λ r. ⌜ r ≡ beAfter 0 (take w (drop at (now (s .entry)))) ⌝ }
 {
-    let mut n: u64 = 0;
-    let mut i = 0;
+    let mut n: u64 = s[at] as u64;
+    if w == 1 {
+        return n;
+    }
+    n = n * 256 + s[at + 1] as u64;
+    let mut i = 2;
     while i < w {
         n = n * 256 + s[at + i] as u64;
         i += 1;
@@ -157,13 +161,11 @@ fn value_after(s: &[u8], major: u8, n: u64, at: usize) -> Item
     Item::Malformed
 }
 
-// The value at a place of s.
-pub fn item_at(s: &[u8], at: usize) -> Item
+// The value at a place of s whose head is of major type 7.
+fn simple_at(s: &[u8], at: usize) -> Item
+    requires { ⌜ (at < length (now s)) × (0xDF < getD (now s) at 0) ⌝ }
     ensures { λ r. ⌜ r ≡ itemAt (now (s .entry)) at ⌝ }
 {
-    if s.len() <= at {
-        return Item::Malformed;
-    }
     let b = s[at];
     let after = at + 1;
     if b == 0xF4 {
@@ -183,6 +185,19 @@ pub fn item_at(s: &[u8], at: usize) -> Item
             value: Value::Null,
             next: after,
         };
+    }
+    Item::Malformed
+}
+
+// The value at a place of s.
+pub fn item_at(s: &[u8], at: usize) -> Item
+    ensures { λ r. ⌜ r ≡ itemAt (now (s .entry)) at ⌝ }
+{
+    if s.len() <= at {
+        return Item::Malformed;
+    }
+    if 0xDF < s[at] {
+        return simple_at(s, at);
     }
     let head = head_at(s, at);
     let Head::Is {
