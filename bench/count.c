@@ -5,8 +5,9 @@
  *
  * FILE gets a line `round COUNT` for each time that `measured` ran and, in the end, a line `function COUNT NAME` for each function with what
  * was executed of it in all these rounds, what it calls left out; code without a name, such as a shared library's, is called "libraries".
- * The plugin sees blocks of instructions: it counts how often each is entered, and takes the counts when `measured` begins and when its
- * caller's code goes on. qemu knows the names of functions only while it logs: hence -d.
+ * qemu shows the plugin each block of instructions before it runs. Every instruction adds 1 to its block's count as it runs (a block's
+ * length would not do: at the end of a page it may list one instruction more than it has), and the counts are taken when `measured` begins
+ * and when its own code goes on. qemu knows the names of functions only while it logs: hence -d.
  */
 #define _POSIX_C_SOURCE 200809L
 #include <inttypes.h>
@@ -24,7 +25,7 @@ enum { ADD_U64 = 0, NO_REGISTERS = 0 };
 void qemu_plugin_register_vcpu_tb_trans_cb(plugin_id id, void (*call)(plugin_id id, struct qemu_plugin_tb *block));
 void qemu_plugin_register_vcpu_tb_exec_cb(struct qemu_plugin_tb *block, void (*call)(unsigned processor, void *lent), int registers,
                                           void *lent);
-void qemu_plugin_register_vcpu_tb_exec_inline(struct qemu_plugin_tb *block, int what, void *number, uint64_t by);
+void qemu_plugin_register_vcpu_insn_exec_inline(struct qemu_plugin_insn *instruction, int what, void *number, uint64_t by);
 void qemu_plugin_register_atexit_cb(plugin_id id, void (*call)(plugin_id id, void *lent), void *lent);
 size_t qemu_plugin_tb_n_insns(const struct qemu_plugin_tb *block);
 struct qemu_plugin_insn *qemu_plugin_tb_get_insn(const struct qemu_plugin_tb *block, size_t place);
@@ -82,7 +83,8 @@ static void at_block(plugin_id id, struct qemu_plugin_tb *block)
     blocks = b;
     if (strcmp(b->function, "measured") == 0)
         qemu_plugin_register_vcpu_tb_exec_cb(block, at_measured, NO_REGISTERS, NULL);
-    qemu_plugin_register_vcpu_tb_exec_inline(block, ADD_U64, &b->executed, qemu_plugin_tb_n_insns(block));
+    for (size_t i = 0; i < qemu_plugin_tb_n_insns(block); i++)
+        qemu_plugin_register_vcpu_insn_exec_inline(qemu_plugin_tb_get_insn(block, i), ADD_U64, &b->executed, 1);
 }
 
 /* Puts each function's count to the log. */

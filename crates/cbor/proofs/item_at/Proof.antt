@@ -1,6 +1,6 @@
 -- `cbor::item_at` meets its contract: a head of major type 7 is apart, and any other value goes by its head.
 -- Assumes nothing.
-use mathlib.Core.Path.{_≡_, sym, ap, _∙_}
+use mathlib.Core.Path.{sym, ap, _∙_}
 use native.Mathlib.Omega.{arith}
 use Rattle.cbor.specs.declared.Head.{Head}
 use Rattle.cbor.specs.Read.{valueAfter}
