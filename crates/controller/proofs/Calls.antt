@@ -13,9 +13,9 @@ use Rattle.laws.proofs.Choice.{pick-yes, pick-no, pick-case}
 use Rattle.slot.specs.declared.Slot.{Slot}
 use Rattle.slot.specs.declared.Session.{Session}
 use Rattle.slot.specs.Session.{State, stateOf, possible, closed, closedIn}
-use Rattle.slot.specs.History.{Fit, History, begun, went, Held}
+use Rattle.slot.specs.History.{Fit, History, begun, went, Held, SentWhole}
 use Rattle.slot.proofs.Fit.{keep-fit, erase-fit, end-fit, planned-fit}
-use Rattle.slot.proofs.History.{demand, as-unbroken}
+use Rattle.slot.proofs.History.{demand, as-unbroken, same-memory}
 use Rattle.smp.specs.declared.Request.{Request}
 use Rattle.smp.specs.declared.Reading.{Reading}
 use Rattle.smp.specs.Request.{readRequest}
@@ -28,6 +28,7 @@ use Rattle.controller.specs.Calls.{
   actsOf,
   PacketDemand,
   PacketUnbroken,
+  PacketSameMemory,
   bufferAfter,
   sizeAt,
   callAt,
@@ -71,9 +72,15 @@ calls-history slot first (c ∷ calls) =
 pub packet-demand : PacketDemand
 packet-demand slot first calls h closed = demand slot first _ _ h closed (calls-history slot first calls)
 
--- its last sentence: chunks that were cut from one image leave what one unbroken sending leaves
+-- its last sentence: of chunks that were cut from one image, the memory is what one unbroken sending leaves
 pub packet-unbroken : PacketUnbroken
 packet-unbroken slot first calls image h closed open-now cut = as-unbroken slot first _ _ image h closed (calls-history slot first calls) open-now cut
+
+-- two lists of packets, of chunks of one image, leave the same memory wherever they stand open at the same place
+pub packet-same-memory : PacketSameMemory
+packet-same-memory slot image first first′ calls calls′ h closed closed′ alike open-now open-now′ level cut cut′ =
+    same-memory slot image first first′ _ _ _ _ h closed closed′ alike (calls-history slot first calls) (calls-history slot first′ calls′) open-now
+    open-now′ level cut cut′
 
 -- a run is at its end: less than a length is left, or the packet is not whole; or one packet more follows
 pub run-end : (slot : Slot) (first : State) (run b : List ℕ) (n at : ℕ) (calls : List Call) → length run - at < 2
@@ -156,4 +163,7 @@ come-end slot m run b m′ tag′ s b′ at c e =
       held = λ h.
           subst (λ (st : State). Held slot first (actsOf slot first (callsOf slot first run b)) st) (sym state)
           (packet-demand slot first (callsOf slot first run b) h refl);
+      unbroken = λ image h running cut.
+          subst (λ (st : State). SentWhole slot first image st) (sym state)
+          (packet-unbroken slot first (callsOf slot first run b) image h refl (ap (λ (st : State). st .session .running) (sym state) ∙ running) cut);
     }

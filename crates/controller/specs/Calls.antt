@@ -11,7 +11,7 @@ use Rattle.slot.specs.declared.Slot.{Slot}
 use Rattle.slot.specs.declared.Session.{Session}
 use Rattle.slot.specs.Session.{regionOk, State, stateOf, possible, closedIn}
 use Rattle.slot.specs.Act.{Act}
-use Rattle.slot.specs.History.{Held, CutFrom, unbroken}
+use Rattle.slot.specs.History.{Held, CutFrom, SentWhole}
 use Rattle.smp.specs.declared.Reading.{Reading}
 use Rattle.smp.specs.declared.Request.{Request}
 use Rattle.smp.specs.Request.{readRequest, isRequest}
@@ -47,7 +47,21 @@ PacketUnbroken =
     → first .session .running ≡ false
     → after slot first calls .session .running ≡ true
     → CutFrom image (actsOf slot first calls)
-    → after slot first calls .memory ≡ unbroken slot (first .memory) image (after slot first calls .session .place)
+    → SentWhole slot first image (after slot first calls)
+
+-- any two lists of packets, of chunks of one image, leave the same memory wherever they stand open at the same place
+abbrev pub PacketSameMemory : Type 0
+PacketSameMemory =
+    (slot : Slot) (image : List ℕ) (first first′ : State) (calls calls′ : List Call) → regionOk slot (length (first .memory)) ≡ true
+    → first .session .running ≡ false
+    → first′ .session .running ≡ false
+    → first .memory ≡ first′ .memory
+    → after slot first calls .session .running ≡ true
+    → after slot first′ calls′ .session .running ≡ true
+    → after slot first calls .session .place ≡ after slot first′ calls′ .session .place
+    → CutFrom image (actsOf slot first calls)
+    → CutFrom image (actsOf slot first′ calls′)
+    → after slot first calls .memory ≡ after slot first′ calls′ .memory
 
 -- the reply buffer after calls, the newest first
 unfoldable pub bufferAfter : Slot → State → List ℕ → List Call → List ℕ
@@ -75,11 +89,14 @@ abbrev pub callsOf : Slot → State → List ℕ → List ℕ → List Call
 callsOf slot first run b = callsFrom slot first run b (length run) 0 []
 
 -- what a run of packets leaves, from a closed session on: the state and the reply buffer as after its calls; and where the slot lies in the
--- memory, the demand holds of them
+-- memory, the demand holds of them, with its last sentence
 pub record Ran (slot : Slot) (m run b m′ tag′ : List ℕ) (s : Session) (b′ : List ℕ) : Type 0 where
   pub state : stateOf m′ tag′ s ≡ after slot (closedIn m) (callsOf slot (closedIn m) run b)
   pub buffer : b′ ≡ bufferAfter slot (closedIn m) b (callsOf slot (closedIn m) run b)
   pub held : regionOk slot (length m) ≡ true → Held slot (closedIn m) (actsOf slot (closedIn m) (callsOf slot (closedIn m) run b)) (stateOf m′ tag′ s)
+  pub unbroken : (image : List ℕ) → regionOk slot (length m) ≡ true → s .running ≡ true
+      → CutFrom image (actsOf slot (closedIn m) (callsOf slot (closedIn m) run b))
+      → SentWhole slot (closedIn m) image (stateOf m′ tag′ s)
 
 -- "every request is answered": a request, with a possible slot and session and a reply buffer of 32 bytes or more, gets a reply, whose bytes
 -- are those of its reply's meaning, in the form that 01 gives it

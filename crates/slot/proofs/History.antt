@@ -1,7 +1,7 @@
 -- The demand on the memory, for any history of acts: the memory is always the first one with a slot's worth of bytes in the slot's place,
 -- and while a session is open these are the data written since its start and then 255s.
 -- Assumes nothing.
-use mathlib.Core.Path.{_≡_, refl, sym, ap, ap₂, _∙_}
+use mathlib.Core.Path.{_≡_, refl, sym, ap, ap₂, subst, _∙_}
 use mathlib.Core.Bool.{true, false, false≢true}
 use mathlib.Core.List.{List, [], _∷_, _++_, append-assoc, append-nil}
 use Prim.Native.Nat.{ℕ, _+_, _-_, _≤_}
@@ -25,7 +25,7 @@ use Rattle.laws.proofs.Lists.{pasted-is, pasted-start, pasted-length, pasted-ta
 use Rattle.slot.specs.declared.Slot.{Slot}
 use Rattle.slot.specs.Session.{regionOk, sessionOk, State, closed}
 use Rattle.slot.specs.Act.{Act, keep, append, start, erase, end, blank, done}
-use Rattle.slot.specs.History.{Fit, History, begun, went, written, slotIn, Held, Demand, CutFrom, Unbroken}
+use Rattle.slot.specs.History.{Fit, History, begun, went, written, slotIn, Held, Demand, CutFrom, Sending, starts, goes-on, Unbroken, SameMemory}
 use Rattle.slot.proofs.Laws.{region-bounds, session-bounds, session-is, session-closed}
 
 -- equal bytes without the first of them
@@ -268,10 +268,28 @@ cut-joined slot first image region e (went {acts} {st} before a fit) cut =
     let held = demand slot first acts st region e before in
     cut-step slot first acts st a image region held fit (λ before-cut. cut-joined slot first image region e before before-cut) cut
 
--- the demand's last sentence, in any history
-pub as-unbroken : Unbroken
+-- chunks that were cut from one image are, joined, as many of its first bytes as the session's place says
+cut-prefix : (slot : Slot) (first : State) (acts : List Act) (st : State) (image : List ℕ) → regionOk slot (length (first .memory)) ≡ true
+    → first .session .running ≡ false
+    → History slot first acts st
+    → st .session .running ≡ true
+    → CutFrom image acts
+    → (written acts ≡ take (st .session .place) image) × (length (take (st .session .place) image) ≡ st .session .place)
+cut-prefix slot first acts st image region e history running cut =
+    let h = demand slot first acts st region e history in
+    let w : length (written acts) ≡ st .session .place = written-length slot first acts st region h running in
+    let y : written acts ≡ take (st .session .place) image =
+    cut-joined slot first image region e history cut ∙ ap (λ (i : ℕ). take i image) w in (y, ap length (sym y) ∙ w)
+
+-- the memory is then a blank slot with those bytes at its start
+cut-memory : (slot : Slot) (first : State) (acts : List Act) (st : State) (image : List ℕ) → regionOk slot (length (first .memory)) ≡ true
+    → first .session .running ≡ false
+    → History slot first acts st
+    → st .session .running ≡ true
+    → CutFrom image acts
+    → st .memory ≡ pasted (blank slot (first .memory)) (slot .start) (take (st .session .place) image)
 unfolding blank
-as-unbroken slot first acts st image region e history running cut =
+cut-memory slot first acts st image region e history running cut =
     let h = demand slot first acts st region e history in
     let r = region-bounds slot (length (first .memory)) region in
     let b = session-bounds slot (st .session) (h .possible) running in
@@ -281,11 +299,53 @@ as-unbroken slot first acts st image region e history running cut =
     let n = st .session .place in
     let full : List ℕ = replicate (slot .size) 255 in
     let all : length full ≡ slot .size = length-replicate (slot .size) 255 in
-    let w : length (written acts) ≡ n = written-length slot first acts st region h running in
-    let y : written acts ≡ take n image = cut-joined slot first image region e history cut ∙ ap (λ (i : ℕ). take i image) w in
-    let k : length (take n image) ≡ n = ap length (sym y) ∙ w in
+    let c = cut-prefix slot first acts st image region e history running cut in
+    let k : length (take n image) ≡ n = c .1 in
     let after : drop n t ≡ drop (length (take n image)) full =
     h .blank-after running ∙ sym (drop-replicate n (slot .size) 255 (omega arith)) ∙ ap (λ (i : ℕ). drop i full) (sym k) in
     p .1
-    ∙ ap (λ (l : List ℕ). pasted f (slot .start) l) (sym (take-append-drop n t) ∙ ap₂ (λ (u v : List ℕ). u ++ v) (h .joined running ∙ y) after)
+    ∙ ap (λ (l : List ℕ). pasted f (slot .start) l) (sym (take-append-drop n t) ∙ ap₂ (λ (u v : List ℕ). u ++ v) (h .joined running ∙ c .0) after)
     ∙ sym (pasted-at-start f (slot .start) full (take n image) (omega arith) (omega arith))
+
+-- two histories of chunks of one image leave the same memory wherever they stand open at the same place
+pub same-memory : SameMemory
+same-memory slot image first first′ acts acts′ st st′ region e e′ alike history history′ running running′ level cut cut′ =
+    let region′ : regionOk slot (length (first′ .memory)) ≡ true = subst (λ (m : List ℕ). regionOk slot (length m) ≡ true) alike region in
+    cut-memory slot first acts st image region e history running cut
+    ∙ ap₂ (λ (m : List ℕ) (n : ℕ). pasted (blank slot m) (slot .start) (take n image)) alike level
+    ∙ sym (cut-memory slot first′ acts′ st′ image region′ e′ history′ running′ cut′)
+
+-- an unbroken sending is cut from its image
+sending-cut : (image : List ℕ) {acts : List Act} → Sending image acts → CutFrom image acts
+unfolding CutFrom
+sending-cut image (starts l tagged tag x cut) = cut
+sending-cut image (goes-on before off x cut) = (cut, sending-cut image before)
+
+-- and leaves its session open
+sending-open : (slot : Slot) (first : State) (image : List ℕ) {acts : List Act} {left : State} → Sending image acts → History slot first acts left
+    → left .session .running ≡ true
+unfolding done Fit
+sending-open slot first image (starts l tagged tag x cut) (went history a fit) = refl
+sending-open slot first image (goes-on before off x cut) (went history a fit) = fit .0
+
+-- the demand's last sentence: the image's first n bytes sent at once, by one start, are such a sending
+pub as-unbroken : Unbroken
+unfolding done Fit
+as-unbroken slot first acts st image region e history running cut =
+    let h = demand slot first acts st region e history in
+    let b = session-bounds slot (st .session) (h .possible) running in
+    let n = st .session .place in
+    let x : List ℕ = take n image in
+    let k : length x ≡ n = cut-prefix slot first acts st image region e history running cut .1 in
+    let all : Act = start (st .session .length) (st .session .tagged) (st .tag) x in
+    record {
+      acts = all ∷ [];
+      left = done slot all first;
+      sending = starts (st .session .length) (st .session .tagged) (st .tag) x (ap (λ (i : ℕ). take i image) (sym k));
+      history = went begun all (omega (arith, k, b .begun), omega (arith, k, b .placed), b .within);
+      place = k;
+      memory = cut-memory slot first acts st image region e history running cut;
+      every = λ acts′ left′ sending history′ level.
+          same-memory slot image first first acts acts′ st left′ region e e refl history history′ running
+          (sending-open slot first image sending history′) (sym level) cut (sending-cut image sending);
+    }

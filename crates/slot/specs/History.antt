@@ -1,16 +1,15 @@
--- What is shown of any history of acts: "whenever a session stands open at offset n, the slot's first n bytes are the data written since
--- its start, joined in order, the slot's other bytes are 255, and no byte outside the slot has ever changed."
+-- What is shown of any history of acts: "Whenever a session stands open at offset n, the slot's first n bytes are the data written since that
+-- session's start, joined in order, and the slot's other bytes are 255. No byte outside the slot has ever changed."
 -- Assumes nothing.
 use Prim.Native.Nat.{ℕ, _+_, _-_, _≤_}
 use mathlib.Core.Path.{_≡_}
-use mathlib.Core.Bool.{true, false}
+use mathlib.Core.Bool.{Bool, true, false}
 use mathlib.Core.List.{List, [], _∷_, _++_}
 use lib.ListN.{length, take, drop, replicate}
-use Rattle.laws.specs.Bytes.{pasted}
 use Rattle.slot.specs.declared.Slot.{Slot}
 use Rattle.slot.specs.declared.Session.{Session}
 use Rattle.slot.specs.Session.{regionOk, sessionOk, State}
-use Rattle.slot.specs.Act.{Act, keep, append, start, erase, end, blank, done}
+use Rattle.slot.specs.Act.{Act, keep, append, start, erase, end, done}
 
 -- an act that the upload rules may come to in a session: data is added only to an open session, at the offset that its request names, which
 -- is the session's place, and within its length; a session starts only with a length that the slot has and with data within it
@@ -49,7 +48,7 @@ pub record Held (slot : Slot) (first : State) (acts : List Act) (st : State) : T
   pub joined : st .session .running ≡ true → take (st .session .place) (slotIn slot (st .memory)) ≡ written acts
   pub blank-after : st .session .running ≡ true → drop (st .session .place) (slotIn slot (st .memory)) ≡ replicate (slot .size - st .session .place) 255
 
--- "In any history": from a closed record, and a memory that the slot lies in
+-- the demand: in any history from a closed record and a memory that the slot lies in
 abbrev pub Demand : Type 0
 Demand =
     (slot : Slot) (first : State) (acts : List Act) (st : State) → regionOk slot (length (first .memory)) ≡ true → first .session .running ≡ false
@@ -65,12 +64,26 @@ CutFrom image (start l tagged tag x ∷ acts) = x ≡ take (length x) image
 CutFrom image (erase ∷ acts) = Unit {0}
 CutFrom image (end ∷ acts) = Unit {0}
 
--- what one unbroken sending of the image's first n bytes leaves in the memory
-abbrev pub unbroken : Slot → List ℕ → List ℕ → ℕ → List ℕ
-unbroken slot m image n = pasted (blank slot m) (slot .start) (take n image)
+-- one unbroken sending of an image, the newest act first: one start and then appends, each with the image's part at the offset that it names,
+-- and nothing before, between or after them
+pub data Sending (image : List ℕ) : List Act → Type 0 where
+  starts : (l : ℕ) (tagged : Bool) (tag x : List ℕ) → x ≡ take (length x) image → Sending image (start l tagged tag x ∷ [])
+  goes-on : {acts : List Act} → Sending image acts → (off : ℕ) (x : List ℕ) → x ≡ take (length x) (drop off image) → Sending image (append off x ∷ acts)
 
--- the demand's last sentence: where the chunks were cut from one image at the offsets they name, the memory is what one unbroken sending
--- leaves
+-- the memory of a state is what one unbroken sending, from the first state to the same place, leaves: there is such a sending, and every one
+-- leaves it
+pub record SentWhole (slot : Slot) (first : State) (image : List ℕ) (st : State) : Type 0 where
+  pub acts : List Act
+  pub left : State
+  pub sending : Sending image acts
+  pub history : History slot first acts left
+  pub place : left .session .place ≡ st .session .place
+  pub memory : st .memory ≡ left .memory
+  pub every : (acts′ : List Act) (left′ : State) → Sending image acts′ → History slot first acts′ left′ → left′ .session .place ≡ st .session .place
+      → st .memory ≡ left′ .memory
+
+-- the demand's last sentence: "if those chunks were cut from one image at the offsets they name, the memory is what one unbroken sending of its
+-- first n bytes leaves"
 abbrev pub Unbroken : Type 0
 Unbroken =
     (slot : Slot) (first : State) (acts : List Act) (st : State) (image : List ℕ) → regionOk slot (length (first .memory)) ≡ true
@@ -78,4 +91,21 @@ Unbroken =
     → History slot first acts st
     → st .session .running ≡ true
     → CutFrom image acts
-    → st .memory ≡ unbroken slot (first .memory) image (st .session .place)
+    → SentWhole slot first image st
+
+-- so two histories from equal memories, of chunks of one image, leave the same memory wherever they stand open at the same place, "however much was
+-- repeated, refused or resumed between"
+abbrev pub SameMemory : Type 0
+SameMemory =
+    (slot : Slot) (image : List ℕ) (first first′ : State) (acts acts′ : List Act) (st st′ : State) → regionOk slot (length (first .memory)) ≡ true
+    → first .session .running ≡ false
+    → first′ .session .running ≡ false
+    → first .memory ≡ first′ .memory
+    → History slot first acts st
+    → History slot first′ acts′ st′
+    → st .session .running ≡ true
+    → st′ .session .running ≡ true
+    → st .session .place ≡ st′ .session .place
+    → CutFrom image acts
+    → CutFrom image acts′
+    → st .memory ≡ st′ .memory
