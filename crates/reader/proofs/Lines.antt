@@ -1,11 +1,11 @@
--- Noise changes nothing: a line that draws refusal 2 or 3 draws it from every record and buffer, and leaves them. So the noise between
--- lines can be left out.
+-- Noise changes nothing: a line that draws refusal 2 or 3 draws it from every record and buffer, and leaves them. So noise among lines adds its
+-- own refusals to their answers, and nothing else.
 -- Assumes nothing.
-use mathlib.Core.Path.{_≡_, refl, ap, _∙_}
+use mathlib.Core.Path.{_≡_, refl, ap, ap₂, _∙_}
 use Prim.Native.Nat.{ℕ, _+_, _-_}
 use native.Mathlib.Omega.{arith}
 use mathlib.Core.Bool.{Bool, true, false, not}
-use mathlib.Core.List.{List, []}
+use mathlib.Core.List.{List, [], _∷_}
 use mathlib.Core.Logic.{_⊎_, inl, inr}
 use mathlib.Core.Option.{Option, none, some}
 use lib.Dec.{ltb}
@@ -18,7 +18,7 @@ use Rattle.frame.specs.Line.{longest, initial, partial, beginsWith, ended, text
 use Rattle.reader.specs.declared.Reader.{Reader}
 use Rattle.reader.specs.declared.Reader.the-variants.{Idle}
 use Rattle.reader.specs.Reader.{Said, more, body, refused, Outcome, keeping, completed, absorb, begin, resume, begun, resumed, takeLine}
-use Rattle.reader.specs.Lines.{Run, saying, feed, NoiseStays, Amid, over, next, noise, hearing, heard}
+use Rattle.reader.specs.Lines.{saying, feed, NoiseStays, Amid, over, next, noise}
 
 -- an answer is refusal 2 or 3
 abbrev Loud : Said → Type 0
@@ -66,51 +66,54 @@ unfolding resumed resume
 quiet-resumed none p = quiet-refused 0
 quiet-resumed (some raw) p = quiet-refused 1
 
+-- a call that gave refusal 2 or 3 was not quiet
+loud : (o : Outcome) (n : ℕ) → (n ≡ 2) ⊎ (n ≡ 3) → o .says ≡ refused n → Loud (o .says)
+loud o n (inl e) s = inl (s ∙ ap refused e)
+loud o n (inr e) s = inr (s ∙ ap refused e)
+
+-- a refusal has one number
+number : (m n : ℕ) → refused m ≡ refused n → m ≡ n
+number m n e = cc
+
 -- a line's outcomes from two records and buffers, by the tests on the way: where the first is refusal 2 or 3 the second is the same one,
 -- and leaves all
-stays : (r : Reader) (p : List ℕ) (a b c d e : Bool) (i j k l : Outcome) → Quiet i → Quiet j
+stays : (r : Reader) (p : List ℕ) (n : ℕ) (a b c d e : Bool) (i j k l : Outcome) → Quiet i → Quiet j → (n ≡ 2) ⊎ (n ≡ 3)
     → (let o : Outcome = pick a (keeping 2 Idle []) (pick b (keeping 3 Idle []) (pick c (keeping 3 Idle []) (pick d i (pick e j (keeping 3 Idle []))))) in
     let o′ : Outcome = pick a (keeping 2 r p) (pick b (keeping 3 r p) (pick c (keeping 3 r p) (pick d k (pick e l (keeping 3 r p))))) in
-    Loud (o .says) → (o′ .says ≡ o .says) × (o′ .reader ≡ r) × (o′ .buffer ≡ p))
+    o .says ≡ refused n → o′ ≡ keeping n r p)
 unfolding pick
-stays r p true b c d e i j k l hi hj n = (refl, refl, refl)
-stays r p false true c d e i j k l hi hj n = (refl, refl, refl)
-stays r p false false true d e i j k l hi hj n = (refl, refl, refl)
-stays r p false false false true e i j k l hi hj n = absurd (hi n)
-stays r p false false false false true i j k l hi hj n = absurd (hj n)
-stays r p false false false false false i j k l hi hj n = (refl, refl, refl)
+stays r p n true b c d e i j k l hi hj which s = ap (λ (m : ℕ). keeping m r p) (number 2 n s)
+stays r p n false true c d e i j k l hi hj which s = ap (λ (m : ℕ). keeping m r p) (number 3 n s)
+stays r p n false false true d e i j k l hi hj which s = ap (λ (m : ℕ). keeping m r p) (number 3 n s)
+stays r p n false false false true e i j k l hi hj which s = absurd (hi (loud i n which s))
+stays r p n false false false false true i j k l hi hj which s = absurd (hj (loud j n which s))
+stays r p n false false false false false i j k l hi hj which s = ap (λ (m : ℕ). keeping m r p) (number 3 n s)
 
 -- noise changes nothing
 pub noise-stays : NoiseStays
 unfolding takeLine
-noise-stays line r p n =
+noise-stays line n r p h =
     let t : Option (List ℕ) = decode (textOf line) in
-    stays r p (ltb longest (length line)) (ltb (length line) 3) (not (ended line)) (beginsWith initial line) (beginsWith partial line)
+    stays r p n (ltb longest (length line)) (ltb (length line) 3) (not (ended line)) (beginsWith initial line) (beginsWith partial line)
     (begun t []) (resumed t Idle []) (begun t p) (resumed t r p)
-    (quiet-begun t []) (quiet-resumed t []) n
+    (quiet-begun t []) (quiet-resumed t []) (h .0) (h .1)
 
--- two rows of calls from which the same is heard, and which leave the same
-pub record Alike (a b : Run) : Type 0 where
-  pub says : heard (a .says) ≡ heard (b .says)
-  pub reader : a .reader ≡ b .reader
-  pub buffer : a .buffer ≡ b .buffer
+-- lists with one more element at their fronts are equal only where their rests are
+rest-is : (a b : Said) (x y : List Said) → a ∷ x ≡ b ∷ y → x ≡ y
+rest-is a b x y e = cc
 
--- a refusal 2 or 3 is not heard
-unheard : (a : Said) (rest : List Said) → Loud a → hearing a rest ≡ rest
-unfolding hearing pick
-unheard a rest (inl e) = rw e
-unheard a rest (inr e) = rw e
+first-is : (a b : Said) (x y : List Said) → a ∷ x ≡ b ∷ y → a ≡ b
+first-is a b x y e = cc
 
--- noise can be left out
-pub without-noise : {fs ls : List (List ℕ)} → Amid fs ls → (r : Reader) (p : List ℕ) → Alike (feed ls r p) (feed fs r p)
-unfolding feed saying heard
-without-noise over r p = record { says = refl; reader = refl; buffer = refl }
-without-noise (next {f = f} {fs = fs} {ls = ls} t) r p =
-    let rest = without-noise t (takeLine r f p .reader) (takeLine r f p .buffer) in
-    record { says = ap (hearing (takeLine r f p .says)) (rest .says); reader = rest .reader; buffer = rest .buffer }
-without-noise (noise {l = l} {fs = fs} {ls = ls} n t) r p =
-    let stay = noise-stays l r p n in
-    let rest = without-noise t r p in
-    let loud : Loud (takeLine r l p .says) = rw (stay .0) n in
-    rw (stay .1, stay .2)
-    (record { says = unheard (takeLine r l p .says) (heard (feed ls r p .says)) loud ∙ rest .says; reader = rest .reader; buffer = rest .buffer })
+-- noise among lines adds its own refusals to their answers, and nothing else
+pub with-noise : {fs ls : List (List ℕ)} {xs ys : List Said} → Amid fs xs ls ys → (r : Reader) (p : List ℕ) → feed fs r p .says ≡ xs
+    → feed ls r p ≡ record { says = ys; reader = feed fs r p .reader; buffer = feed fs r p .buffer }
+unfolding feed saying
+with-noise over r p e = refl
+with-noise (next {f = f} {a = a} {fs = fs} {ls = ls} {xs = xs} {ys = ys} t) r p e =
+    let o : Outcome = takeLine r f p in
+    let rest = with-noise t (o .reader) (o .buffer) (rest-is (o .says) a (feed fs (o .reader) (o .buffer) .says) xs e) in
+    ap₂ saying (first-is (o .says) a (feed fs (o .reader) (o .buffer) .says) xs e) rest
+with-noise (noise {l = l} {n = n} {fs = fs} {ls = ls} {xs = xs} {ys = ys} h t) r p e =
+    ap (λ (o : Outcome). saying (o .says) (feed ls (o .reader) (o .buffer))) (noise-stays l n r p h)
+    ∙ ap (saying (refused n)) (with-noise t r p e)

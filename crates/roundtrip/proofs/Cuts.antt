@@ -15,7 +15,7 @@ use Rattle.laws.specs.Table.{tab}
 use Rattle.frame.specs.Line.{rawMost}
 use Rattle.sender.specs.Sender.{severalFrom, bodyMost, frameCount, rawOf, startOf, stopOf, pieceOf, laterCuts, cuts}
 use Rattle.roundtrip.specs.RoundTrip.{pieces, CutsAgree}
-use Rattle.roundtrip.specs.Standing.{afterTotal}
+use Rattle.roundtrip.specs.Inner.{afterTotal}
 use Rattle.sender.proofs.Count.{count-one, count-several, count-later, count-last, start-is, start-later, stop-next, stop-last}
 use Rattle.roundtrip.proofs.Pieces.{after-length, piece-first, piece-later}
 

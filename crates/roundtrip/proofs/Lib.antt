@@ -3,3 +3,5 @@ pub mod Step
 pub mod Pieces
 pub mod Cuts
 pub mod Passage
+pub mod Sent
+pub mod Passing

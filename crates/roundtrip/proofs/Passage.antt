@@ -15,23 +15,17 @@ use Rattle.crc.specs.Crc.{crcOf}
 use Rattle.crc.proofs.Laws.{onward-lt}
 use Rattle.reader.specs.declared.Reader.{Reader}
 use Rattle.reader.specs.declared.Reader.the-variants.{Idle}
-use Rattle.reader.specs.Reader.{Said, more, body, begin, takeLine}
+use Rattle.reader.specs.Reader.{more, body, begin, takeLine}
 use Rattle.sender.specs.Sender.{frameCount, startOf, stopOf, pieceOf, frameOf}
-use Rattle.reader.specs.Lines.{saying, feed, hearing, heard}
-use Rattle.roundtrip.specs.RoundTrip.{frames, RoundTrip}
-use Rattle.roundtrip.specs.Standing.{afterTotal, standing, holding, whole}
-use Rattle.reader.proofs.Lines.{without-noise}
+use Rattle.reader.specs.Lines.{Run, saying, feed}
+use Rattle.roundtrip.specs.RoundTrip.{frames, answers, readBack, RoundTrip}
+use Rattle.roundtrip.specs.Inner.{afterTotal, standing, holding, whole}
+use Rattle.reader.proofs.Lines.{with-noise}
 use Rattle.roundtrip.proofs.Step.{holding-none, holding-length, initial-step, partial-step, whole-more, whole-body}
 use Rattle.sender.proofs.Laws.{piece-length}
 use Rattle.sender.proofs.Count.{count-some, start-is, start-first, stop-next, stop-last}
 use Rattle.roundtrip.proofs.Pieces.{after-length, piece-first, piece-joined, piece-some, piece-bytes}
 use Rattle.roundtrip.proofs.Lines.{initial-taken, partial-taken}
-
--- all that our sender's frames draw is heard
-heard-all : (n b : ℕ) → heard (replicate n more ++ (body b ∷ [])) ≡ replicate n more ++ (body b ∷ [])
-unfolding heard hearing
-heard-all zero b = refl
-heard-all (suc n) b = ap (λ (l : List Said). more ∷ l) (heard-all n b)
 
 -- the bytes since total that the frames before number k carry
 abbrev before : List ℕ → ℕ → List ℕ
@@ -145,8 +139,7 @@ module _ (s q : List ℕ) (bytes : Bytes s) (low : 8 ≤ length s) (high : lengt
       (ap (saying more) (run m (suc k) (opened s (suc k)) (omega arith) (λ h. refl)))
 
   -- the answers to all frames, with no noise
-  run-all : (r : Reader)
-      → feed (frames s) r q ≡ record { says = replicate (frameCount (length s) - 1) more ++ (body (length s) ∷ []); reader = Idle; buffer = pasted q 0 s }
+  pub run-all : (r : Reader) → feed (frames s) r q ≡ readBack (answers s) s q
   unfolding frames
   run-all r =
       let e : suc (frameCount (length s) - 1) ≡ frameCount (length s) = omega (arith, count-some (length s)) in
@@ -154,11 +147,7 @@ module _ (s q : List ℕ) (bytes : Bytes s) (low : 8 ≤ length s) (high : lengt
 
 -- a packet that our sender framed is read back unchanged, with noise anywhere between its frames
 pub round-trip : RoundTrip
-round-trip s p r lines bytes low high room amid =
-    let alike = without-noise amid r p in
+round-trip s p r lines says bytes low high room amid =
     let all = run-all s p bytes low high room r in
-    record {
-      says = alike .says ∙ rw all (heard-all (frameCount (length s) - 1) (length s));
-      reader = alike .reader ∙ rw all;
-      buffer = alike .buffer ∙ rw all;
-    }
+    with-noise amid r p (ap (λ (run : Run). run .says) all)
+    ∙ ap (λ (run : Run). record { says = says; reader = run .reader; buffer = run .buffer }) all

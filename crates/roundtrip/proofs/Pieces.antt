@@ -11,7 +11,7 @@ use Rattle.laws.specs.Bytes.{Bytes, be16}
 use Rattle.laws.proofs.Lists.{take-past, drop-past, bytes-join, bytes-take, bytes-drop, be16-bytes}
 use Rattle.crc.specs.Crc.{crcOf}
 use Rattle.sender.specs.Sender.{frameCount, rawOf, startOf, stopOf, pieceOf}
-use Rattle.roundtrip.specs.Standing.{afterTotal}
+use Rattle.roundtrip.specs.Inner.{afterTotal}
 use Rattle.sender.proofs.Count.{count-some, start-first, start-later, piece-size}
 
 -- as many bytes follow total as it says

@@ -18,7 +18,7 @@ use Rattle.laws.proofs.Lists.{pasted-none, pasted-start, pasted-length, pasted-
 use Rattle.crc.specs.Crc.{crcOf}
 use Rattle.reader.specs.declared.Reader.the-variants.{Idle}
 use Rattle.reader.specs.Reader.{more, body, bodyOf, crcBytes, filled, waiting, completed, possible, absorb, begin, resume}
-use Rattle.roundtrip.specs.Standing.{firstOf, standing, holding, closed, whole}
+use Rattle.roundtrip.specs.Inner.{firstOf, standing, holding, closed, whole}
 
 -- the CRC bytes that have come are what follows the body in u and x joined
 crc-bytes : (total : ℕ) (u x : List ℕ) → 2 ≤ total → length u < total

@@ -1,2 +1,2 @@
 pub mod RoundTrip
-pub mod Standing
+pub mod Inner
