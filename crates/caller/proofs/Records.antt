@@ -1,0 +1,31 @@
+-- Stored records are read back.
+-- Assumes nothing.
+use mathlib.Core.Path.{_≡_, refl, ap₂}
+use mathlib.Core.Bool.{Bool, true, false}
+use borrow.Author.Tests.{le-ltb}
+use native.Mathlib.Omega.{arith}
+use Rattle.laws.specs.Choice.{pick}
+use Rattle.laws.proofs.Choice.{pick-yes, pick-no}
+use Rattle.reader.specs.declared.Reader.{Reader}
+use Rattle.reader.specs.declared.Reader.the-variants.{Idle, Open}
+use Rattle.slot.specs.declared.Session.{Session}
+use Rattle.port.specs.Records.{flagOf, numberOfFlag, readerFrom, readerNumbers, sessionNumbers}
+use Rattle.caller.specs.Records.{SessionBack, FirstByte, ReaderBack}
+
+-- a flag that was stored is read back
+flag-back : (b : Bool) → flagOf (numberOfFlag b) ≡ b
+unfolding numberOfFlag
+flag-back true = refl
+flag-back false = refl
+
+-- a session record that was stored is read back
+pub session-back : SessionBack
+unfolding sessionNumbers
+session-back s =
+    ap₂ (λ (r t : Bool). record { running = r; length = s .length; place = s .place; tagged = t }) (flag-back (s .running)) (flag-back (s .tagged))
+
+-- a reader's record that was stored is read back
+pub reader-back : ReaderBack
+unfolding readerNumbers readerFrom pick
+reader-back Idle h = refl
+reader-back (Open total come first) h = rw (le-ltb 255 first (omega arith))

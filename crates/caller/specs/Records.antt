@@ -1,0 +1,21 @@
+-- A record that a call stored in the caller's array is read back by the next call.
+-- Assumes nothing.
+use Prim.Native.Nat.{_<_}
+use mathlib.Core.Path.{_≡_}
+use Rattle.reader.specs.declared.Reader.{Reader}
+use Rattle.reader.specs.declared.Reader.the-variants.{Idle, Open}
+use Rattle.slot.specs.declared.Session.{Session}
+use Rattle.port.specs.Records.{readerOf, readerNumbers, sessionOf, sessionNumbers}
+
+-- the session record
+abbrev pub SessionBack : Type 0
+SessionBack = (s : Session) → sessionOf (sessionNumbers s) ≡ s
+
+-- the first CRC byte of a reader's record is a byte
+abbrev pub FirstByte : Reader → Type 0
+FirstByte Idle = Unit {0}
+FirstByte (Open total come first) = first < 256
+
+-- the reader's record
+abbrev pub ReaderBack : Type 0
+ReaderBack = (r : Reader) → FirstByte r → readerOf (readerNumbers r) ≡ r
