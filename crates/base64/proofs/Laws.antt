@@ -14,7 +14,7 @@ use Rattle.laws.specs.Choice.{pick, both}
 use Rattle.laws.specs.Bytes.{Bytes}
 use Rattle.laws.proofs.Choice.{pick-yes, pick-no, pick-case, pick-keep, both-yes, both-true}
 use Rattle.laws.proofs.Lists.{bytes-none, bytes-cons, bytes-join}
-use Rattle.base64.specs.Base64.{char, value, pad, encode, known, first, second, third, full, three, final, ahead, decode}
+use Rattle.base64.specs.Base64.{char, value, pad, encode, known, first, second, third, full, three, final, ahead, decode, DecodeEncode, EncodeDecode}
 use Rattle.base64.specs.Contract.{bytesIn, kept, stored}
 
 -- a test that holds of every number below n
@@ -142,7 +142,7 @@ encode-some (a ∷ b ∷ []) h = lit< tt
 encode-some (a ∷ b ∷ c ∷ s) h = omega arith
 
 -- what is encoded is decoded again
-pub decode-encode : (x : List ℕ) → Bytes x → 0 < length x → decode (encode x) ≡ some x
+pub decode-encode : DecodeEncode
 unfolding encode decode ahead
 decode-encode [] p h = absurd (omega arith)
 decode-encode (a ∷ []) p h =
@@ -295,7 +295,7 @@ module _ (P : List ℕ → List ℕ → Type 0)
       rw back (more a b c d (f ∷ t) (g .0) (omega arith) (w .0) (g .1 .0) (decode-elim (f ∷ t) (g .0) (g .1 .0)))
 
 -- every text that decodes is the encoding of what it decodes to
-pub encode-decode : (t x : List ℕ) → decode t ≡ some x → encode x ≡ t
+pub encode-decode : EncodeDecode
 encode-decode =
     decode-elim (λ (t x : List ℕ). encode x ≡ t) encode-final
     (λ a b c d t x some-text f e h. encode-three a b c d x f ∙ ap (λ (l : List ℕ). a ∷ b ∷ c ∷ d ∷ l) h)

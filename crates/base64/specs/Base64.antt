@@ -1,12 +1,15 @@
 -- RFC 4648 Base64 with the standard alphabet, read strictly: a positive multiple of four characters, `=` only at the end, unused bits
 -- zero. A character is its ASCII number.
 -- Assumes nothing.
-use Prim.Native.Nat.{ℕ, _+_, _*_, _-_, _/_, _%_}
+use Prim.Native.Nat.{ℕ, _+_, _*_, _-_, _/_, _%_, _<_}
+use mathlib.Core.Path.{_≡_}
 use mathlib.Core.Bool.{Bool}
 use mathlib.Core.List.{List, [], _∷_, _++_}
 use mathlib.Core.Option.{Option, none, some}
 use lib.Dec.{ltb, leb, eqb}
+use lib.ListN.{length}
 use Rattle.laws.specs.Choice.{pick, both}
+use Rattle.laws.specs.Bytes.{Bytes}
 
 -- the character that stands for a number below 64: A to Z, a to z, 0 to 9, + and /
 unfoldable pub char : ℕ → ℕ
@@ -88,3 +91,11 @@ decode (a ∷ b ∷ []) = none
 decode (a ∷ b ∷ c ∷ []) = none
 decode (a ∷ b ∷ c ∷ d ∷ []) = final a b c d
 decode (a ∷ b ∷ c ∷ d ∷ e ∷ s) = pick (full a b c d) (ahead (three a b c d) (decode (e ∷ s))) none
+
+-- what is shown of the two: what encoding gives for one byte or more is decoded to the same bytes
+abbrev pub DecodeEncode : Type 0
+DecodeEncode = (x : List ℕ) → Bytes x → 0 < length x → decode (encode x) ≡ some x
+
+-- and every text that decodes is the encoding of what it decodes to, so that nothing else is taken
+abbrev pub EncodeDecode : Type 0
+EncodeDecode = (t x : List ℕ) → decode t ≡ some x → encode x ≡ t

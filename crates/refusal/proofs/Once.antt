@@ -20,7 +20,7 @@ use Rattle.refusal.specs.declared.Refusal.the-variants.{
   Unsendable,
   NoSuchFrame,
 }
-use Rattle.refusal.specs.Number.{numberOf}
+use Rattle.refusal.specs.Number.{numberOf, NumberOnce}
 
 -- the refusal of a number: the table's rows in order, from number 1 on
 abbrev pub refusalOf : ℕ → Refusal
@@ -61,5 +61,5 @@ number-back Unsendable = refl
 number-back NoSuchFrame = refl
 
 -- refusals with one number are one refusal
-pub number-once : (a b : Refusal) → numberOf a ≡ numberOf b → a ≡ b
+pub number-once : NumberOnce
 number-once a b e = sym (number-back a) ∙ ap refusalOf e ∙ number-back b

@@ -1,6 +1,7 @@
 -- The number of each refusal, row by row of the table "What the numbers mean".
 -- Assumes nothing.
 use Prim.Native.Nat.{ℕ}
+use mathlib.Core.Path.{_≡_}
 use Rattle.refusal.specs.declared.Refusal.{Refusal}
 use Rattle.refusal.specs.declared.Refusal.the-variants.{
   Impossible,
@@ -33,3 +34,7 @@ numberOf WrongKind = 10
 numberOf ReplyTooShort = 11
 numberOf Unsendable = 12
 numberOf NoSuchFrame = 13
+
+-- refusals with one number are one refusal
+abbrev pub NumberOnce : Type 0
+NumberOnce = (a b : Refusal) → numberOf a ≡ numberOf b → a ≡ b
