@@ -2,26 +2,34 @@
  * Belagunthi: both ends of a controller's update port, for C and C++.
  *
  * Each call is proved to keep the promise in the comment above it, for every value of its arguments: it ends, it touches nothing but what
- * it is lent, and it returns 0 or the number of one refusal. After a refusal every lent byte and number is as it was, but for the reader's
- * record at refusals 4, 6, 7, 8 and 9, which is then idle.
+ * it is lent, and it returns 0 or the number of one refusal (bg_next_sequence and bg_most_data refuse nothing, and return their number). After a
+ * refusal every lent byte and number is as it was, but for the reader's record at refusals 4, 6, 7, 8 and 9, which is then idle. No call keeps
+ * anything of its own: there is nothing to set up, and calls on different arrays may run at the same time.
  *
- * What the caller owes, and no call can check: a pointer with a length is that many bytes, his to lend for the call (the pointer may be
- * null where the length is 0); an array parameter has as many elements as it says; two lent buffers never overlap, unless both are only read.
+ * What the caller owes, and no call can check:
+ *  - A pointer with a length is that many bytes, his to lend for the call; it may be null where the length is 0. Every other pointer (an array, an
+ *    out number) is not null, and an array has as many elements as it says.
+ *  - Two lent buffers never overlap, unless both are only read.
+ *  - The controller's memory is plain memory: a byte that is written is read back, and nothing else writes there during a call. A flash memory that
+ *    needs commands is lent as a copy in plain memory.
  *
- * The refusals:
- *    1  the slot region or the session record is impossible
- *    2  the line is over 127 bytes
- *    3  the line is under 3 bytes, has no marker, or no 0A at its end
- *    4  the line's text is not well-formed Base64
- *    5  a partial frame, and no packet is open
- *    6  an initial frame with under 2 raw bytes, or a total under 10
- *    7  the body is longer than the packet buffer
- *    8  more bytes came than total says
- *    9  the CRC differs
- *   10  not a packet of the kind asked for: a request, or a well-formed reply
- *   11  the reply buffer is under 32 bytes
- *   12  what the sender or a writer cannot send
- *   13  the frame number is not below the frame count
+ * What a controller owes for the promise over a row of calls (see bg_handle): after one bg_configure that returned 0, start and size stay as they were
+ * configured, and memory, session record and tag come back to each call as the last one left them. A reader owes the same of its record and its
+ * packet buffer from line to line (see bg_take_line).
+ *
+ * To link: the archive libport.a is code for x86-64 Linux, today for no other processor, and needs memcpy and memset of the C library, and nothing
+ * else. No call takes more than BG_STACK bytes of stack; measured on x86-64, without what memcpy and memset take:
+ *   bg_take_line       456
+ *   bg_send_frame      248
+ *   bg_configure         8
+ *   bg_handle          592
+ *   bg_write_echo        8
+ *   bg_write_reset       8
+ *   bg_write_erase       8
+ *   bg_write_upload    200
+ *   bg_most_data        64
+ *   bg_read_reply      344
+ *   bg_next_sequence     8
  */
 #ifndef BELAGUNTHI_H
 #define BELAGUNTHI_H
@@ -33,11 +41,36 @@
 extern "C" {
 #endif
 
+/* The version: major * 10000 + minor * 100 + patch. The major number changes with a promise that a caller may rely on, the minor with a new name. */
+#define BG_VERSION 10000
+#define BG_VERSION_TEXT "1.0.0"
+
+/* The most stack that a call takes, in bytes. */
+#define BG_STACK 1024
+
+/* What a call returns: done, or the refusal of this number. */
+enum bg_result {
+  BG_DONE = 0,
+  BG_IMPOSSIBLE = 1,       /* the slot region or the session record is impossible */
+  BG_LINE_TOO_LONG = 2,    /* the line is over 127 bytes */
+  BG_NO_FRAME = 3,         /* the line is under 3 bytes, has no marker, or no 0A at its end */
+  BG_BAD_TEXT = 4,         /* the line's text is not well-formed Base64 */
+  BG_NO_PACKET_OPEN = 5,   /* a partial frame, and no packet is open */
+  BG_BAD_TOTAL = 6,        /* an initial frame with under 2 raw bytes, or a total under 10 */
+  BG_BODY_TOO_LONG = 7,    /* the body is longer than the packet buffer */
+  BG_TOO_MANY_BYTES = 8,   /* more bytes came than total says */
+  BG_CRC_DIFFERS = 9,      /* the CRC differs */
+  BG_WRONG_KIND = 10,      /* not a packet of the kind asked for: a request, or a well-formed reply */
+  BG_REPLY_TOO_SHORT = 11, /* the reply buffer is under 32 bytes */
+  BG_UNSENDABLE = 12,      /* what the sender or a writer cannot send */
+  BG_NO_SUCH_FRAME = 13    /* the frame number is not below the frame count */
+};
+
 /*
- * The reader's record: { open, total, come, first }. All 0 is idle; begin with that. Where open is not 0 a packet is open: total is 10 to
- * 65,535, come counts the body and CRC bytes that have come and is below total, and first is the first CRC byte where come is total less 1,
- * and elsewhere any number up to 255; other numbers make it impossible. A call that stores an open record stores open as 1, and first as 0
- * unless come is total less 1.
+ * The reader's record: { open, total, come, first }. All 0 is idle; begin with that. Where open is 0 the record is idle, and its other numbers are not
+ * looked at. Where open is not 0 a packet is open: total is 10 to 65,535, come counts the body and CRC bytes that have come and is below total, and
+ * first is the first CRC byte where come is total less 1, and elsewhere any number up to 255; other numbers make it impossible. A call that stores an
+ * open record stores open as 1, and first as 0 unless come is total less 1.
  */
 #define BG_READER 4
 
@@ -47,13 +80,29 @@ extern "C" {
  * the length; else it is impossible.
  */
 #define BG_SESSION 4
+enum bg_session_number { BG_SESSION_OPEN, BG_SESSION_LENGTH, BG_SESSION_PLACE, BG_SESSION_TAGGED };
 #define BG_TAG 32
 
-/* A reply: see bg_read_reply. */
+/* The numbers of a reply: see bg_read_reply. */
 #define BG_REPLY 12
+enum bg_reply_number {
+  BG_REPLY_OP,
+  BG_REPLY_FLAGS,
+  BG_REPLY_LENGTH,
+  BG_REPLY_GROUP,
+  BG_REPLY_SEQUENCE,
+  BG_REPLY_COMMAND,
+  BG_REPLY_RC,
+  BG_REPLY_HAS_OFF,
+  BG_REPLY_OFF,
+  BG_REPLY_HAS_TEXT,
+  BG_REPLY_TEXT_START,
+  BG_REPLY_TEXT_LENGTH
+};
 
-/* The shortest output that bg_send_frame takes, and the shortest reply buffer. */
+/* The longest line, which is also the shortest output that bg_send_frame takes; the longest packet; and the shortest reply buffer. */
 #define BG_LINE 127
+#define BG_PACKET 65533
 #define BG_REPLY_ROOM 32
 
 /*
@@ -62,6 +111,8 @@ extern "C" {
  * *body bytes stand at the packet buffer's start, and the record is idle. Body bytes go to the packet buffer in order; its other bytes stay.
  * Refuses 2 to 9, in this order. At 2, 3 and 5 the record stays; at the others it becomes idle. The packet buffer and *body stay at all of
  * them: the CRC is compared before a byte is written. A record that is open outside its bounds is refused 5 for a partial frame.
+ * Over a row of calls, record and packet buffer untouched between them: the lines of a body that bg_send_frame wrote, in order and with lines that are
+ * refused 2 or 3 anywhere among them, are answered "more" until the last, which gives the body back, whatever the record was at first.
  */
 uint32_t bg_take_line(uint32_t reader[BG_READER], const uint8_t *line, size_t line_len, uint8_t *packet, size_t packet_len, uint32_t *body);
 
@@ -75,52 +126,66 @@ uint32_t bg_send_frame(const uint8_t *body, size_t body_len, size_t k, uint8_t *
 /*
  * Says whether a slot that starts at `start` and has `size` bytes is possible in a memory of memory_len bytes: 1 to 1,048,576 bytes, ending
  * inside the memory. Returns 0 and makes the session record and its tag all 0, a closed session; or refuses 1, and they stay.
- * The memory is not looked at: configuring erases nothing.
+ * The memory is not looked at: configuring erases nothing. Configuring again begins a new history.
  */
 uint32_t bg_configure(size_t start, size_t size, size_t memory_len, uint32_t session[BG_SESSION], uint8_t tag[BG_TAG]);
 
 /*
  * Takes one request packet: writes the slot as the upload rules say, and a reply to the start of the reply buffer, whose other bytes stay.
  * Returns 0 with answer = { the reply's length, 1 where a reset is asked, else 0 }, and the session record and tag for the next call: open and
- * tagged are then 0 or 1; a reset or an erase makes all of it 0; a start writes length, place and the tag, zeros where there is none; data that is
- * added moves place alone; and any other request leaves the other numbers and the tag as they were lent. A request is at most 65,533 bytes long;
- * an echo reply longer than the reply buffer becomes rc 7. No byte of the memory outside the slot is ever written.
+ * tagged are then 0 or 1; a reset or an erase that is answered rc 0 makes all of it 0 (an erase sets the whole slot to 255; one that is answered rc 3, as
+ * of another slot than 1, changes nothing); a start writes length, place and the tag, zeros where there is none; data that is added moves place alone;
+ * and any other request leaves the other numbers and the tag as they were lent. A request is at most 65,533 bytes long; an echo reply longer than
+ * the reply buffer becomes rc 7. An rc other than 0 leaves memory and session. No byte of the memory outside the slot is ever written.
  * Refuses 1, 11 and 10, in this order: everything stays.
+ * Over a row of calls after bg_configure, the kept arrays untouched between them: whenever a session is open at place n, the slot's first n bytes are
+ * the data written since its start, joined in order, and its other bytes are 255; no byte outside the slot has changed; and if that data was cut from
+ * one image at the offsets that the requests named, the memory is what one unbroken sending of the image's first n bytes leaves.
  */
 uint32_t bg_handle(uint8_t *memory, size_t memory_len, size_t start, size_t size, uint32_t session[BG_SESSION], uint8_t tag[BG_TAG],
                    const uint8_t *packet, size_t packet_len, uint8_t *reply, size_t reply_len, uint32_t answer[2]);
 
 /*
  * The request writers. Each writes a packet to the start of out, whose other bytes stay, and returns 0 with *packet_len its length; or
- * refuses 12, and out and *packet_len stay: an output shorter than the packet, or a packet over 65,533 bytes.
+ * refuses 12, and out and *packet_len stay: an output shorter than the packet, or a packet over 65,533 bytes. What they write, bg_handle reads as it
+ * was meant, with the sequence number given here.
  */
 
-/* An echo of a text. */
+/* An echo of a text: 11 bytes, a head of 1, 2 or 3 (for a text of under 24, under 256, or more bytes), and the text. */
 uint32_t bg_write_echo(uint8_t sequence, const uint8_t *text, size_t text_len, uint8_t *out, size_t out_len, uint32_t *packet_len);
 
-/* A reset. */
+/* A reset: 9 bytes. */
 uint32_t bg_write_reset(uint8_t sequence, uint8_t *out, size_t out_len, uint32_t *packet_len);
 
-/* An erase of the slot. */
+/* An erase of the slot: 9 bytes. */
 uint32_t bg_write_erase(uint8_t sequence, uint8_t *out, size_t out_len, uint32_t *packet_len);
 
 /*
  * An upload of data at an offset. At offset 0 the image's length goes with it, and its tag of 32 bytes where tag_len is not 0; at other
  * offsets neither is looked at. Refuses 12 also for an offset above 4,294,967,295, empty data, or at offset 0 a length of 0 or above
- * 4,294,967,295, data longer than the length, or a tag_len neither 0 nor 32.
+ * 4,294,967,295, data longer than the length, or a tag_len neither 0 nor 32. How much data fits: bg_most_data.
  */
 uint32_t bg_write_upload(uint8_t sequence, const uint8_t *data, size_t data_len, uint64_t off, uint64_t length, const uint8_t *tag,
                          size_t tag_len, uint8_t *out, size_t out_len, uint32_t *packet_len);
 
 /*
+ * The most data that bg_write_upload, with this offset, length and tag_len, puts into an output of out_len bytes: it writes data of 1 to that many
+ * bytes, and refuses any other. 0 where it refuses all data. For a controller whose packet buffer has n bytes, ask for the smaller of n and the
+ * output's length.
+ */
+uint32_t bg_most_data(size_t out_len, uint64_t off, uint64_t length, size_t tag_len);
+
+/*
  * Reads a packet as a reply. Returns 0 with
  * reply = { op, flags, payload length, group, sequence, command, rc, off there (0 or 1), off, text there (0 or 1), text start, text length };
  * rc is 0 where the reply has none, off 0 where it has none, and the text's start, counted from the packet's first byte, and length are 0
- * where it has none. Refuses 10, and reply stays: op neither 1 nor 3, a wrong length, or a map that is not well formed.
+ * where it has none. A text that is there lies inside the packet: its start plus its length is at most packet_len. Refuses 10, and reply stays: op
+ * neither 1 nor 3, a wrong length, or a map that is not well formed. Group, sequence and command are the caller's to compare with the request's.
+ * What bg_handle replied is read as it was meant.
  */
 uint32_t bg_read_reply(const uint8_t *packet, size_t packet_len, uint32_t reply[BG_REPLY]);
 
-/* The sequence number after this one: 0 after 255. */
+/* The sequence number after this one: 0 after 255. It refuses nothing. */
 uint8_t bg_next_sequence(uint8_t sequence);
 
 #ifdef __cplusplus

@@ -58,6 +58,7 @@ extern "C" {
     ) -> u32;
     fn bg_read_reply(packet: *const u8, packet_len: usize, reply: *mut u32) -> u32;
     fn bg_next_sequence(sequence: u8) -> u8;
+    fn bg_most_data(out_len: usize, off: u64, length: u64, tag_len: usize) -> u32;
 }
 
 /// How many guard elements stand on each side of what is lent.
@@ -259,6 +260,9 @@ pub fn call(call: &Call, place: Place) -> Outcome {
                 bg_read_reply(packet.pointer(), packet.length, reply.pointer())
             }
             (Kind::NextSequence, ..) => bg_next_sequence(numbers[0] as u8) as u32,
+            (Kind::MostData, ..) => {
+                bg_most_data(numbers[0] as usize, numbers[1], numbers[2], numbers[3] as usize)
+            }
             _ => unreachable!("a call has the parameters of its shape"),
         }
     };

@@ -17,6 +17,7 @@ pub enum Kind {
     WriteUpload,
     ReadReply,
     NextSequence,
+    MostData,
 }
 
 /// The names of a call's parameters: numbers passed by value, arrays of 32-bit words, and lent buffers.
@@ -53,6 +54,7 @@ impl Kind {
             ),
             Kind::ReadReply => ("bg_read_reply", &[], &[("reply", 12)], &["packet"]),
             Kind::NextSequence => ("bg_next_sequence", &["sequence"], &[], &[]),
+            Kind::MostData => ("bg_most_data", &["out_len", "off", "length", "tag_len"], &[], &[]),
         };
         Shape { name, numbers, words, buffers }
     }
@@ -167,6 +169,11 @@ pub fn next_sequence(sequence: u8) -> Call {
     Call { kind: Kind::NextSequence, numbers: vec![sequence as u64], words: vec![], buffers: vec![] }
 }
 
+/// Asks for the most data of an upload.
+pub fn most_data(out: u64, off: u64, length: u64, tag: u64) -> Call {
+    Call { kind: Kind::MostData, numbers: vec![out, off, length, tag], words: vec![], buffers: vec![] }
+}
+
 /// Makes a call of the second program.
 pub fn by_second(call: &Call) -> Outcome {
     let numbers = &call.numbers;
@@ -207,6 +214,9 @@ pub fn by_second(call: &Call) -> Outcome {
         }
         (Kind::ReadReply, reply, [packet]) => port::read_reply(packet, reply.try_into().unwrap()),
         (Kind::NextSequence, ..) => port::next_sequence(numbers[0] as u8) as u32,
+        (Kind::MostData, ..) => {
+            port::most_data(numbers[0] as usize, numbers[1], numbers[2], numbers[3] as usize)
+        }
         _ => unreachable!("a call has the parameters of its shape"),
     };
     Outcome { returned, words, buffers, fault: None }

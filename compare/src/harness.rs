@@ -67,6 +67,8 @@ fn answer_of(call: &Call, outcome: &Outcome) -> (&'static str, &'static str, Opt
     let name = call.kind.shape().name;
     match (call.kind, outcome.returned) {
         (Kind::NextSequence, _) => (name, "answered", None),
+        (Kind::MostData, 0) => (name, "none", None),
+        (Kind::MostData, _) => (name, "some", None),
         (Kind::TakeLine, 0) if outcome.words[4] == 0 => (name, "more", None),
         (Kind::TakeLine, 0) => (name, "complete", None),
         (Kind::Handle, 0) => match outcome.buffers[3][8..13] {

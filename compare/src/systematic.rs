@@ -355,6 +355,21 @@ fn writers(harness: &mut Harness, rng: &mut Rng) {
     }
 }
 
+/// The most data for every short output, at the edges of each head's width.
+fn most(harness: &mut Harness) {
+    harness.kind("most data: every short output");
+    for room in (0..=340).chain(65_500..=65_540) {
+        for off in [0, 1, 23, 24, 255, 256, 65_535, 65_536, 4_294_967_295, 4_294_967_296] {
+            harness.check(most_data(room, off, 0, 33));
+        }
+        for whole in [0, 1, 23, 24, 255, 256, 65_536, 4_294_967_295, 4_294_967_296] {
+            for tag in [0, 31, 32] {
+                harness.check(most_data(room, 0, whole, tag));
+            }
+        }
+    }
+}
+
 /// Compares all of them.
 pub fn run(harness: &mut Harness, rng: &mut Rng) {
     lines(harness, rng);
@@ -362,4 +377,5 @@ pub fn run(harness: &mut Harness, rng: &mut Rng) {
     maps(harness, rng);
     sessions(harness, rng);
     writers(harness, rng);
+    most(harness);
 }

@@ -1,6 +1,6 @@
 //! Values at the edges for the request writers.
 
-use crate::call::{next_sequence, write_echo, write_plain, write_upload, Kind};
+use crate::call::{most_data, next_sequence, write_echo, write_plain, write_upload, Kind};
 use crate::harness::Harness;
 use crate::rng::Rng;
 
@@ -51,6 +51,19 @@ pub fn single(harness: &mut Harness, rng: &mut Rng) {
             let room = room(rng, 9);
             harness.check(write_plain(kind, sequence, rng.bytes(room), packet_len));
             harness.check(next_sequence(sequence));
+        }
+        4 => {
+            harness.kind("writers: most data");
+            let off = if rng.once_in(2) { 0 } else { rng.number() };
+            let whole = if rng.once_in(2) { rng.number() } else { rng.below(700) as u64 };
+            let tag = rng.pick(&[0, 0, 32, 32, 1, 31, 33]);
+            let room = match rng.below(4) {
+                0 if rng.once_in(20) => rng.range(65_440, 65_700) as u64,
+                1 if rng.once_in(20) => rng.number(),
+                2 => rng.range(18, 110) as u64,
+                _ => rng.below(700) as u64,
+            };
+            harness.check(most_data(room, off, whole, tag));
         }
         _ => {
             harness.kind("writers: upload");

@@ -69,6 +69,30 @@ pub fn write_upload(
     put(1, sequence, 1, &map, out)
 }
 
+/// Says whether an upload with this many data bytes can be written into an output of this many bytes.
+fn can_write(data: usize, off: u64, length: u64, tag: usize, room: usize) -> bool {
+    let mut out = vec![0; room.min(LONGEST)];
+    write_upload(0, &vec![0; data], off, length, &vec![0; tag], &mut out).is_ok()
+}
+
+/// The most data bytes that an upload can carry into an output of this many bytes; 0 where it can carry none. Found by
+/// halving, with the writer itself: what can be written with n bytes of data can be with fewer, down to one.
+pub fn most_data(room: usize, off: u64, length: u64, tag: usize) -> usize {
+    if off == 0 && tag != 0 && tag != 32 {
+        return 0;
+    }
+    let (mut fits, mut beyond) = (0, room.min(LONGEST) + 1);
+    while beyond - fits > 1 {
+        let middle = fits + (beyond - fits) / 2;
+        if can_write(middle, off, length, if off == 0 { tag } else { 0 }, room) {
+            fits = middle;
+        } else {
+            beyond = middle;
+        }
+    }
+    fits
+}
+
 /// A well-formed reply; the text's place is counted from the packet's first byte.
 #[derive(Clone, Debug, PartialEq, Eq)]
 pub struct Reply {

@@ -105,6 +105,11 @@ pub fn read_reply(packet: &[u8], reply: &mut [u32; 12]) -> u32 {
     })
 }
 
+/// The most data bytes of an upload into an output of this many bytes.
+pub fn most_data(out: usize, off: u64, length: u64, tag: usize) -> u32 {
+    host::most_data(out, off, length, tag) as u32
+}
+
 /// The sequence number after this one.
 pub fn next_sequence(sequence: u8) -> u8 {
     host::next_sequence(sequence)

@@ -586,6 +586,25 @@ fn replies() {
 }
 
 #[test]
+fn most_data() {
+    // Past offset 0: 18 bytes, the heads of the data and of the offset, and the data.
+    let later = [(20, 0), (21, 1), (43, 23), (44, 23), (45, 24), (276, 255), (277, 255), (278, 256), (512, 490)];
+    for (room, most) in later {
+        assert_eq!(port::most_data(room, 23, 0, 7), most, "{room}");
+    }
+    assert_eq!(port::most_data(512, 65_536, 0, 0), 486);
+    // At offset 0 also the length, and a tag of 32 bytes with its key: 38 more.
+    assert_eq!(port::most_data(512, 0, 100_000, 0), 481);
+    assert_eq!(port::most_data(512, 0, 100_000, 32), 443);
+    assert_eq!(port::most_data(512, 0, 5, 32), 5);
+    assert_eq!(port::most_data(65_533, 1, 0, 0), 65_511);
+    assert_eq!(port::most_data(70_000, 1, 0, 0), 65_511);
+    for (off, length, tag) in [(0, 0, 0), (0, 4_294_967_296, 0), (0, 9, 31), (4_294_967_296, 9, 0)] {
+        assert_eq!(port::most_data(512, off, length, tag), 0);
+    }
+}
+
+#[test]
 fn sequence_numbers() {
     assert_eq!(port::next_sequence(0), 1);
     assert_eq!(port::next_sequence(254), 255);

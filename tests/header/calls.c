@@ -187,6 +187,9 @@ static void check_replies(void)
           "an empty packet is refused 10, and all stays");
     check(bg_read_reply(echoed, 14, reply) == 0 && same(reply, of_echo, sizeof reply), "an echo's reply");
     check(bg_read_reply(at_512, 20, reply) == 0 && same(reply, of_512, sizeof reply), "an upload's reply");
+    check(bg_most_data(512, 0, 100000, 32) == 443 && bg_most_data(512, 65536, 0, 0) == 486
+              && bg_most_data(20, 1, 0, 0) == 0 && bg_most_data(512, 0, 9, 31) == 0,
+          "the most data of a packet");
     check(bg_next_sequence(0) == 1 && bg_next_sequence(254) == 255 && bg_next_sequence(255) == 0,
           "sequence numbers");
 }

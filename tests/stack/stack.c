@@ -63,6 +63,10 @@ static void next_sequence(void) {
     numbers[0] = bg_next_sequence(1);
 }
 
+static void most_data(void) {
+    numbers[0] = bg_most_data(sizeof out, 0, 900, 32);
+}
+
 static void read_reply(void) {
     bg_read_reply(reply, reply_len, numbers);
 }
@@ -128,6 +132,7 @@ int main(void) {
     fine &= within("bg_write_upload", write_upload, base);
     fine &= within("bg_write_reset", write_reset, base);
     fine &= within("bg_write_erase", write_erase, base);
+    fine &= within("bg_most_data", most_data, base);
     fine &= within("bg_next_sequence", next_sequence, base);
     printf("stack: the limit is %d bytes: %s\n", LIMIT, fine ? "kept" : "BROKEN");
     return fine ? 0 : 1;

@@ -54,7 +54,7 @@ none-small Number.Absent e = omega arith
 none-small (Number.Is v) e = ltb-false 4294967295 v e
 
 -- a text that lies within the packet ends inside it
-run-inside : (s : List ℕ) (x : Run) → Within s x → runStart x + runLength x ≤ length s
+pub run-inside : (s : List ℕ) (x : Run) → Within s x → runStart x + runLength x ≤ length s
 unfolding runStart runLength
 run-inside s Run.Absent o = omega arith
 run-inside s (Run.At start len) o = o
