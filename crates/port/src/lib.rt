@@ -19,6 +19,7 @@ ghost use Rattle.port.specs.Records.{runThere, runStart, runLength, repl
 ghost use Rattle.port.specs.Calls.{tookLine, keepsRecord, handledC, wroteBy, wroteC, sentFrame, configuredC, readC};
 ghost use Rattle.port.specs.Contract.{Storable, Held32};
 ghost use Rattle.host.specs.Write.{told, packet, writeEcho, writeReset, writeErase, writeUpload, nextSequence};
+ghost use Rattle.host.specs.Size.{mostData};
 ghost use Rattle.port.specs.Contract.{ReplySmall};
 
 // The reader's record out of its four numbers.
@@ -263,6 +264,14 @@ pub extern "C" fn bg_write_upload(
 {
     let w = host::write_upload(sequence, data, off, length, tag, out);
     told_c(w, size)
+}
+
+// The most data that an upload request can carry, for an output of this many bytes: 0 where it can carry none.
+#[no_mangle]
+pub extern "C" fn bg_most_data(out_len: usize, off: u64, length: u64, tag_len: usize) -> u32
+    ensures { λ r. ⌜ r ≡ mostData «out_len» off length «tag_len» ⌝ }
+{
+    host::most_data(out_len, off, length, tag_len) as u32
 }
 
 // Writes frame number k of a body, as a line, to the start of out.
