@@ -381,7 +381,7 @@ text-back pre x post h =
     (value-text (pre ++ (headOf 3 (length x) ++ (x ++ post))) (length x) (length pre + length (headOf 3 (length x))))
 
 -- a head at a place ends after it and within the bytes
-head-within : (s : List ℕ) (at : ℕ) → HeadWithin s at (headAt s at)
+pub head-within : (s : List ℕ) (at : ℕ) → HeadWithin s at (headAt s at)
 unfolding headAt headAfter
 head-within s at =
     let P : Head → Type 0 = λ h. HeadWithin s at h in
