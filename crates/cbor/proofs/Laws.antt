@@ -18,7 +18,7 @@ use Rattle.cbor.specs.declared.Value.the-variants.{Unsigned, Negative, F
 use Rattle.cbor.specs.declared.Head.{Head}
 use Rattle.cbor.specs.declared.Item.{Item}
 use Rattle.cbor.specs.Read.{beAfter, widthOf, headAfter, headAt, stringFrom, valueAfter, itemAt}
-use Rattle.cbor.specs.Write.{beBytes, headOf, bytesOf, textOf}
+use Rattle.cbor.specs.Write.{beBytes, headOf, headLen, HeadLong, bytesOf, textOf}
 use Rattle.cbor.specs.Within.{Inside, HeadWithin, ItemWithin}
 use Rattle.cbor.proofs.Numbers.{bytes-length, number-back}
 
@@ -185,6 +185,18 @@ head-size m n = ap length (head-form m n) ∙ ap suc (bytes-length (sizeOf n) n)
 -- no major type changes it
 pub head-length : (m n : ℕ) → length (headOf m n) ≡ length (headOf 0 n)
 head-length m n = head-size m n ∙ sym (head-size 0 n)
+
+-- it is the one that the arguments' ranges give
+pub head-long : HeadLong
+unfolding headLen sizeOf pick
+head-long m n = head-size m n ∙ ways (ltb n 24) (ltb n 256) (ltb n 65536) (ltb n 4294967296)
+  where
+    ways : (t u v w : Bool) → suc (pick t 0 (pick u 1 (pick v 2 (pick w 4 8)))) ≡ pick t 1 (pick u 2 (pick v 3 (pick w 5 9)))
+    ways true u v w = refl
+    ways false true v w = refl
+    ways false false true w = refl
+    ways false false false true = refl
+    ways false false false false = refl
 
 -- an argument below 24
 pub form-tiny : (n : ℕ) → n < 24 → (infoOf n ≡ n) × (sizeOf n ≡ 0)
@@ -369,7 +381,7 @@ text-back pre x post h =
     (value-text (pre ++ (headOf 3 (length x) ++ (x ++ post))) (length x) (length pre + length (headOf 3 (length x))))
 
 -- a head at a place ends after it and within the bytes
-head-within : (s : List ℕ) (at : ℕ) → HeadWithin s at (headAt s at)
+pub head-within : (s : List ℕ) (at : ℕ) → HeadWithin s at (headAt s at)
 unfolding headAt headAfter
 head-within s at =
     let P : Head → Type 0 = λ h. HeadWithin s at h in

@@ -5,7 +5,7 @@ use mathlib.Core.Path.{_≡_, refl, sym, subst, ap, ap₂, _∙_}
 use mathlib.Core.Bool.{Bool, true, false, not}
 use mathlib.Core.List.{List, [], _∷_, _++_}
 use mathlib.Core.Option.{Option, some}
-use Prim.Native.Nat.{ℕ, _+_, _^_, _≤_, _<_}
+use Prim.Native.Nat.{ℕ, _+_, _-_, _^_, _≤_, _<_}
 use native.Mathlib.Decide.{decLe}
 use native.Mathlib.Omega.{arith}
 use lib.Dec.{ltb, eqb, lit<}
@@ -58,7 +58,22 @@ use Rattle.host.specs.Write.{
   writeUpload,
 }
 use Rattle.host.specs.Read.{reply, orZero, valuesOf, mapRead, isReply, readReply}
-use Rattle.host.specs.Meant.{sent, EchoMeant, ResetMeant, EraseMeant, UploadIs, UploadMeant, rcMeant, offMeant, textMeant, TextIs, Writable, ReplyMeant}
+use Rattle.host.specs.Meant.{
+  sent,
+  headed,
+  EchoIs,
+  EchoMeant,
+  EmptyIs,
+  ResetMeant,
+  EraseMeant,
+  UploadIs,
+  UploadMeant,
+  rcMeant,
+  offMeant,
+  textMeant,
+  TextIs,
+  ReplyMeant,
+}
 use Rattle.host.proofs.Writing.{request-length, sent-whole, echo-length, later-length, first-length-untagged, first-length-tagged, tag-size}
 use Rattle.host.proofs.Walking.{header-read}
 use Rattle.host.proofs.Maps.{
@@ -105,6 +120,16 @@ request-read group sequence command m small most c is =
     header-read (requestHeader group sequence command (length m)) m refl refl (omega (arith, request-length group sequence command m)) small
     ∙ ap (λ (x : Command). Reading.Is (requestOf x (front group sequence command m ++ m))) is
 
+-- its header is read back
+request-headed : (group sequence command : ℕ) (m : List ℕ) → group < 65536 → length (requestPacket group sequence command m) ≤ 65533
+    → headerIn (requestPacket group sequence command m) ≡ headed group sequence command (requestPacket group sequence command m)
+request-headed group sequence command m small most =
+    let n = request-length group sequence command m in
+    let e : length m ≡ length (requestPacket group sequence command m) - 8 = omega arith in
+    ap headerIn (request-parts group sequence command m)
+    ∙ header-back (requestHeader group sequence command (length m)) m (omega arith) small
+    ∙ ap (λ (k : ℕ). requestHeader group sequence command k) e
+
 -- an echo request's header names the echo
 echo-command : (sequence n : ℕ) → commandOf (requestHeader 0 sequence 0 n) ≡ Command.Echo
 unfolding commandOf pick both
@@ -128,29 +153,37 @@ erase-command sequence n = refl
 -- a reset that was written is read as one
 pub reset-meant : ResetMeant
 unfolding writeReset requestOf mapped
-reset-meant sequence out n bound e =
+reset-meant sequence out n e =
     let p : List ℕ = requestPacket 0 sequence 5 (mapOf 0) in
     let w = sent-whole p out n e in
-    ap readRequest (w .1)
-    ∙ request-read 0 sequence 5 (mapOf 0) (lit< tt) (w .0) Command.Reset (reset-command sequence (length (mapOf 0)))
-    ∙ ap (λ (m : Option (List ℕ)). Reading.Is (mapped (λ (f : List ℕ). Request.Reset) m))
-    (empty-read Kind.Reset p (front 0 sequence 5 (mapOf 0)) (request-parts 0 sequence 5 (mapOf 0)) (front-length 0 sequence 5 (mapOf 0)))
+    subst (EmptyIs 0 sequence Request.Reset) (sym (w .1))
+    (record {
+      header = request-headed 0 sequence 5 (mapOf 0) (lit< tt) (w .0);
+      read =
+          request-read 0 sequence 5 (mapOf 0) (lit< tt) (w .0) Command.Reset (reset-command sequence (length (mapOf 0)))
+          ∙ ap (λ (m : Option (List ℕ)). Reading.Is (mapped (λ (f : List ℕ). Request.Reset) m))
+          (empty-read Kind.Reset p (front 0 sequence 5 (mapOf 0)) (request-parts 0 sequence 5 (mapOf 0)) (front-length 0 sequence 5 (mapOf 0)));
+    })
 
 -- so is an erase
 pub erase-meant : EraseMeant
 unfolding writeErase requestOf mapped eraseWith numberIn indexOf pick
-erase-meant sequence out n bound e =
+erase-meant sequence out n e =
     let p : List ℕ = requestPacket 1 sequence 5 (mapOf 0) in
     let w = sent-whole p out n e in
-    ap readRequest (w .1)
-    ∙ request-read 1 sequence 5 (mapOf 0) (lit< tt) (w .0) Command.Erase (erase-command sequence (length (mapOf 0)))
-    ∙ ap (λ (m : Option (List ℕ)). Reading.Is (mapped (λ (f : List ℕ). eraseWith (numberIn f Key.Slot)) m))
-    (empty-read Kind.Erase p (front 1 sequence 5 (mapOf 0)) (request-parts 1 sequence 5 (mapOf 0)) (front-length 1 sequence 5 (mapOf 0)))
+    subst (EmptyIs 1 sequence Request.Erase) (sym (w .1))
+    (record {
+      header = request-headed 1 sequence 5 (mapOf 0) (lit< tt) (w .0);
+      read =
+          request-read 1 sequence 5 (mapOf 0) (lit< tt) (w .0) Command.Erase (erase-command sequence (length (mapOf 0)))
+          ∙ ap (λ (m : Option (List ℕ)). Reading.Is (mapped (λ (f : List ℕ). eraseWith (numberIn f Key.Slot)) m))
+          (empty-read Kind.Erase p (front 1 sequence 5 (mapOf 0)) (request-parts 1 sequence 5 (mapOf 0)) (front-length 1 sequence 5 (mapOf 0)));
+    })
 
 -- an echo that was written is read as the echo of that text
 pub echo-meant : EchoMeant
 unfolding writeEcho echoMap requestOf mapped echoWith runIn stored indexOf firstOf secondOf pick
-echo-meant sequence text out n bound small e =
+echo-meant sequence text out n e =
     let m : List ℕ = echoMap text in
     let p : List ℕ = requestPacket 0 sequence 0 m in
     let pre : List ℕ = front 0 sequence 0 m in
@@ -159,11 +192,15 @@ echo-meant sequence text out n bound small e =
     let parts : p ≡ pre ++ m = request-parts 0 sequence 0 m in
     let start : ℕ = textAt pre nameD text in (
       start,
-      ap readRequest (w .1)
-          ∙ request-read 0 sequence 0 m (lit< tt) (w .0) Command.Echo (echo-command sequence (length m))
-          ∙ ap (λ (x : Option (List ℕ)). Reading.Is (mapped (λ (f : List ℕ). echoWith (runIn f Key.Text)) x))
-          (text-read Kind.Echo p pre nameD text parts (front-length 0 sequence 0 m) key-d (lit< tt) fits),
-      ap (λ (l : List ℕ). take (length text) (drop start l)) (w .1) ∙ text-there Kind.Echo p pre nameD text parts,
+      subst (λ (l : List ℕ). EchoIs sequence text l start) (sym (w .1))
+          (record {
+            header = request-headed 0 sequence 0 m (lit< tt) (w .0);
+            read =
+                request-read 0 sequence 0 m (lit< tt) (w .0) Command.Echo (echo-command sequence (length m))
+                ∙ ap (λ (x : Option (List ℕ)). Reading.Is (mapped (λ (f : List ℕ). echoWith (runIn f Key.Text)) x))
+                (text-read Kind.Echo p pre nameD text parts (front-length 0 sequence 0 m) key-d (lit< tt) fits);
+            text-is = text-there Kind.Echo p pre nameD text parts;
+          }),
     )
 
 -- a number and the one after it are equal to another where that and its next are
@@ -198,8 +235,8 @@ unfolding isReply both
 kind-tested p o size op e =
     ap₂ (λ (b : Bool) (n : ℕ). both b (not (both (not (eqb n 1)) (not (eqb n 3))))) size op ∙ e
 
--- the group of a packet is below 65,536
-group-small : (s : List ℕ) → Bytes s → headerIn s .group < 65536
+-- the group of a packet of bytes is below 65,536
+pub group-small : (s : List ℕ) → Bytes s → headerIn s .group < 65536
 unfolding ofBe16
 group-small s b = omega (arith, bytes-drop 4 s b 0, bytes-drop 4 s b 1)
 
@@ -213,11 +250,11 @@ unfolding replyPacket
 reply-parts s m = refl
 
 -- a reply that was written is read by its map, and its header is read back
-module _ (s m : List ℕ) (bytes : Bytes s) (is : isRequest s ≡ true) (most : 8 + length m ≤ 65533) where
+module _ (s m : List ℕ) (small : headerIn s .group < 65536) (is : isRequest s ≡ true) (most : 8 + length m ≤ 65533) where
   -- the reply's header is read back
   answer-back : headerIn (replyPacket (headerIn s) m) ≡ answer s m
   unfolding replyPacket
-  answer-back = header-back (answer s m) m (omega arith) (group-small s bytes)
+  answer-back = header-back (answer s m) m (omega arith) small
 
   -- the reply is read as what its map says
   reply-read : readReply (replyPacket (headerIn s) m) ≡ mapRead (replyPacket (headerIn s) m) (mapFrom Kind.Reply (replyPacket (headerIn s) m) 8)
@@ -242,31 +279,31 @@ values-heard p f h rc off text back a b c small less =
     rw (a, b, c, small, less, pick-no, pick-no) (ap (λ (x : Header). reply (record { header = x; rc = orZero rc; off = off; text = text })) back)
 
 -- a reply with a return code is read as that code
-rc-meant : (s : List ℕ) (n : ℕ) → Bytes s → isRequest s ≡ true → n < 256 → 8 + length (rcMap n) ≤ 65533
+rc-meant : (s : List ℕ) (n : ℕ) → headerIn s .group < 65536 → isRequest s ≡ true → n < 256 → 8 + length (rcMap n) ≤ 65533
     → readReply (replyPacket (headerIn s) (rcMap n))
     ≡ reply (record { header = answer s (rcMap n); rc = n; off = Number.Absent; text = Run.Absent })
 unfolding mapRead numberIn runIn orZero above stored indexOf firstOf secondOf pick
-rc-meant s n bytes is small most =
+rc-meant s n group is small most =
     let m : List ℕ = rcMap n in
     let p : List ℕ = replyPacket (headerIn s) m in
     let fits : n < 2 ^ 64 = omega arith in
-    reply-read s m bytes is most
+    reply-read s m group is most
     ∙ ap (mapRead p) (rc-read p (headerBytes (answer s m)) n (reply-parts s m) (header-length (answer s m)) fits)
-    ∙ values-heard p _ (answer s m) (Number.Is n) Number.Absent Run.Absent (answer-back s m bytes is most) refl refl refl
+    ∙ values-heard p _ (answer s m) (Number.Is n) Number.Absent Run.Absent (answer-back s m group is most) refl refl refl
     (le-ltb largest n (omega arith)) refl
 
 -- a reply with an offset is read as success and that offset
-placed-meant : (s : List ℕ) (n : ℕ) → Bytes s → isRequest s ≡ true → n < 4294967296 → 8 + length (replyMap s (Answered.Placed n)) ≤ 65533
+placed-meant : (s : List ℕ) (n : ℕ) → headerIn s .group < 65536 → isRequest s ≡ true → n < 4294967296 → 8 + length (replyMap s (Answered.Placed n)) ≤ 65533
     → readReply (replyPacket (headerIn s) (replyMap s (Answered.Placed n)))
     ≡ reply (record { header = answer s (replyMap s (Answered.Placed n)); rc = 0; off = Number.Is n; text = Run.Absent })
 unfolding mapRead numberIn runIn orZero above stored indexOf firstOf secondOf pick
-placed-meant s n bytes is small most =
+placed-meant s n group is small most =
     let m : List ℕ = replyMap s (Answered.Placed n) in
     let p : List ℕ = replyPacket (headerIn s) m in
     let fits : n < 2 ^ 64 = omega arith in
-    reply-read s m bytes is most
+    reply-read s m group is most
     ∙ ap (mapRead p) (placed-read p (headerBytes (answer s m)) s n (reply-parts s m) (header-length (answer s m)) fits)
-    ∙ values-heard p _ (answer s m) (Number.Is 0) (Number.Is n) Run.Absent (answer-back s m bytes is most) refl refl refl
+    ∙ values-heard p _ (answer s m) (Number.Is 0) (Number.Is n) Run.Absent (answer-back s m group is most) refl refl refl
     refl (le-ltb largest n (omega arith))
 
 -- the map of an echo's reply
@@ -279,13 +316,14 @@ part-length : (s : List ℕ) (from len : ℕ) → from + len ≤ length s → le
 part-length s from len h = simp (length-take, length-drop) (omega arith)
 
 -- a reply with a text is read as success and the place of that text
-text-meant : (s : List ℕ) (from len : ℕ) → Bytes s → isRequest s ≡ true → from + len ≤ length s → 8 + length (replyMap s (Answered.Text from len)) ≤ 65533
+text-meant : (s : List ℕ) (from len : ℕ) → headerIn s .group < 65536 → isRequest s ≡ true → from + len ≤ length s
+    → 8 + length (replyMap s (Answered.Text from len)) ≤ 65533
     → (start : ℕ)
     × (readReply (replyPacket (headerIn s) (replyMap s (Answered.Text from len)))
     ≡ reply (record { header = answer s (replyMap s (Answered.Text from len)); rc = 0; off = Number.Absent; text = Run.At start len }))
     × (take len (drop start (replyPacket (headerIn s) (replyMap s (Answered.Text from len)))) ≡ take len (drop from s))
 unfolding mapRead numberIn runIn orZero above stored indexOf firstOf secondOf pick
-text-meant s from len bytes is inside most =
+text-meant s from len group is inside most =
     let m : List ℕ = replyMap s (Answered.Text from len) in
     let p : List ℕ = replyPacket (headerIn s) m in
     let pre : List ℕ = headerBytes (answer s m) in
@@ -295,20 +333,20 @@ text-meant s from len bytes is inside most =
     let parts : p ≡ pre ++ (mapOf 1 ++ (textOf nameR ++ textOf x)) = reply-parts s m ∙ ap (λ (l : List ℕ). pre ++ l) (text-form s from len) in
     let start : ℕ = textAt pre nameR x in (
       start,
-      reply-read s m bytes is most
+      reply-read s m group is most
           ∙ ap (mapRead p) (text-read Kind.Reply p pre nameR x parts (header-length (answer s m)) key-r (lit< tt) fits)
-          ∙ values-heard p _ (answer s m) Number.Absent Number.Absent (Run.At start (length x)) (answer-back s m bytes is most) refl refl refl refl refl
+          ∙ values-heard p _ (answer s m) Number.Absent Number.Absent (Run.At start (length x)) (answer-back s m group is most) refl refl refl refl refl
           ∙ ap (λ (k : ℕ). reply (record { header = answer s m; rc = 0; off = Number.Absent; text = Run.At start k })) size,
       ap (λ (k : ℕ). take k (drop start p)) (sym size) ∙ text-there Kind.Reply p pre nameR x parts,
     )
 
 -- a reply that was written is read as what it meant
 pub reply-meant : ReplyMeant
-unfolding replyMap rcMeant offMeant textMeant TextIs Writable
-reply-meant s (Answered.Refused why) bytes is can most = (0, rc-meant s (rcOf why) bytes is (rc-byte why) most, tt)
-reply-meant s Answered.Done bytes is can most = (0, rc-meant s 0 bytes is (lit< tt) most, tt)
-reply-meant s (Answered.Placed n) bytes is can most = (0, placed-meant s n bytes is can most, tt)
-reply-meant s (Answered.Text from len) bytes is can most = text-meant s from len bytes is can most
+unfolding replyMap rcMeant offMeant textMeant TextIs
+reply-meant s (Answered.Refused why) group is can most = (0, rc-meant s (rcOf why) group is (rc-byte why) most, tt)
+reply-meant s Answered.Done group is can most = (0, rc-meant s 0 group is (lit< tt) most, tt)
+reply-meant s (Answered.Placed n) group is can most = (0, placed-meant s n group is can most, tt)
+reply-meant s (Answered.Text from len) group is can most = text-meant s from len group is (can .0) most
 
 -- a writer that says that it wrote a packet passed the test before it
 not-refused : (t : Bool) (out : List ℕ) (b : Outcome) (n : ℕ) → pick t (unsendable out) b .says ≡ packet n → (t ≡ false)
@@ -361,7 +399,7 @@ asked off start size length sha =
 -- past offset 0: the offset and the data
 later-meant : (sequence : ℕ) (x : List ℕ) (off size : ℕ) (tag : List ℕ) → (off ≡ 0 → ⊥) → off ≤ 4294967295
     → length (requestPacket 1 sequence 1 (laterMap x off)) ≤ 65533
-    → (u : Upload) × UploadIs x off size tag (requestPacket 1 sequence 1 (laterMap x off)) u
+    → (u : Upload) × UploadIs sequence x off size tag (requestPacket 1 sequence 1 (laterMap x off)) u
 unfolding uploadWith numberIn runIn flagIn bytesIn isThere both stored indexOf firstOf secondOf pick
 later-meant sequence x off size tag past small most =
     let m : List ℕ = laterMap x off in
@@ -374,6 +412,7 @@ later-meant sequence x off size tag past small most =
     let none : eqb off 0 ≡ false = ne-eqb off 0 past in (
       asked off (dataAt pre 2 x) (length x) Number.Absent Run.Absent,
       record {
+        header = request-headed 1 sequence 1 m (lit< tt) most;
         read = upload-read sequence m f _ most (later-read p pre x off parts (front-length 1 sequence 1 m) fits less) refl;
         offset = refl;
         data-is = later-there p pre x off parts;
@@ -389,7 +428,7 @@ later-meant sequence x off size tag past small most =
 -- at offset 0 without a tag: the length too
 untagged-meant : (sequence : ℕ) (x : List ℕ) (size : ℕ) (tag : List ℕ) → length tag ≡ 0 → size ≤ 4294967295
     → length (requestPacket 1 sequence 1 (firstMap x size tag)) ≤ 65533
-    → (u : Upload) × UploadIs x 0 size tag (requestPacket 1 sequence 1 (firstMap x size tag)) u
+    → (u : Upload) × UploadIs sequence x 0 size tag (requestPacket 1 sequence 1 (firstMap x size tag)) u
 unfolding uploadWith numberIn runIn flagIn bytesIn isThere both stored indexOf firstOf secondOf pick
 untagged-meant sequence x size tag none small most =
     let m : List ℕ = firstMap x size tag in
@@ -401,6 +440,7 @@ untagged-meant sequence x size tag none small most =
     let f : List ℕ = pairsFields (dataAt pre 3 x) (length x) size in (
       asked 0 (dataAt pre 3 x) (length x) (Number.Is size) Run.Absent,
       record {
+        header = request-headed 1 sequence 1 m (lit< tt) most;
         read = upload-read sequence m f _ most (untagged-read p pre x size tag none parts (front-length 1 sequence 1 m) fits less) refl;
         offset = refl;
         data-is = untagged-there p pre x size tag none parts;
@@ -420,7 +460,7 @@ untagged-meant sequence x size tag none small most =
 -- at offset 0 with a tag: the length and the tag too
 tagged-meant : (sequence : ℕ) (x : List ℕ) (size : ℕ) (tag : List ℕ) → length tag ≡ 32 → size ≤ 4294967295
     → length (requestPacket 1 sequence 1 (firstMap x size tag)) ≤ 65533
-    → (u : Upload) × UploadIs x 0 size tag (requestPacket 1 sequence 1 (firstMap x size tag)) u
+    → (u : Upload) × UploadIs sequence x 0 size tag (requestPacket 1 sequence 1 (firstMap x size tag)) u
 unfolding uploadWith numberIn runIn flagIn bytesIn isThere both stored indexOf firstOf secondOf pick
 tagged-meant sequence x size tag whole small most =
     let m : List ℕ = firstMap x size tag in
@@ -435,6 +475,7 @@ tagged-meant sequence x size tag whole small most =
     let f : List ℕ = stored Key.Sha (Value.Bytes place (length tag)) (pairsFields (dataAt pre 4 x) (length x) size) in (
       asked 0 (dataAt pre 4 x) (length x) (Number.Is size) (Run.At place (length tag)),
       record {
+        header = request-headed 1 sequence 1 m (lit< tt) most;
         read = upload-read sequence m f _ most (tagged-read p pre x size tag some parts (front-length 1 sequence 1 m) fits less short) refl;
         offset = refl;
         data-is = tagged-there p pre x size tag some parts;
@@ -449,7 +490,7 @@ tagged-meant sequence x size tag whole small most =
 
 -- an upload that was written is read as the upload that was meant
 pub upload-meant : UploadMeant
-upload-meant sequence x off size tag out n bound bx bt e =
+upload-meant sequence x off size tag out n e =
     elim (decLe off 0) [
       | yes a ↦ at-start (omega arith) (first-went sequence x off size tag out n e (omega arith))
       | no a ↦
@@ -458,18 +499,18 @@ upload-meant sequence x off size tag out n bound bx bt e =
     ]
   where
     moved : (m : List ℕ) → writeUpload sequence x off size tag out ≡ put (requestPacket 1 sequence 1 m) out
-        → (length (requestPacket 1 sequence 1 m) ≤ 65533 → (u : Upload) × UploadIs x off size tag (requestPacket 1 sequence 1 m) u)
-        → (u : Upload) × UploadIs x off size tag (sent (writeUpload sequence x off size tag out) n) u
+        → (length (requestPacket 1 sequence 1 m) ≤ 65533 → (u : Upload) × UploadIs sequence x off size tag (requestPacket 1 sequence 1 m) u)
+        → (u : Upload) × UploadIs sequence x off size tag (sent (writeUpload sequence x off size tag out) n) u
     moved m went meant =
         let w = sent-whole (requestPacket 1 sequence 1 m) out n (ap (λ (o : Outcome). o .says) (sym went) ∙ e) in
-        subst (λ (l : List ℕ). (u : Upload) × UploadIs x off size tag l u) (sym (ap (λ (o : Outcome). take n (o .buffer)) went ∙ w .1)) (meant (w .0))
+        subst (λ (l : List ℕ). (u : Upload) × UploadIs sequence x off size tag l u) (sym (ap (λ (o : Outcome). take n (o .buffer)) went ∙ w .1)) (meant (w .0))
 
     at-start : off ≡ 0 → (size ≤ 4294967295) × (misSized tag ≡ false)
         × (writeUpload sequence x off size tag out ≡ put (requestPacket 1 sequence 1 (firstMap x size tag)) out)
-        → (u : Upload) × UploadIs x off size tag (sent (writeUpload sequence x off size tag out) n) u
+        → (u : Upload) × UploadIs sequence x off size tag (sent (writeUpload sequence x off size tag out) n) u
     at-start zero w =
         moved (firstMap x size tag) (w .2)
-        (λ most. subst (λ (o : ℕ). (u : Upload) × UploadIs x o size tag (requestPacket 1 sequence 1 (firstMap x size tag)) u) (sym zero)
+        (λ most. subst (λ (o : ℕ). (u : Upload) × UploadIs sequence x o size tag (requestPacket 1 sequence 1 (firstMap x size tag)) u) (sym zero)
         (elim (decLe (length tag) 0) [
           | yes a ↦ untagged-meant sequence x size tag (omega arith) (w .0) most
           | no a ↦ tagged-meant sequence x size tag (tag-size tag (w .1) (λ z. omega arith)) (w .0) most

@@ -21,8 +21,10 @@ use Rattle.smp.specs.Packet.{headerBytes}
 use Rattle.smp.proofs.Headers.{header-length}
 use Rattle.smp.proofs.Writing.{pasted-front, head-tiny, head-word}
 use Rattle.host.specs.declared.Written.the-variants.{Packet}
-use Rattle.host.specs.Write.{requestHeader, requestPacket, echoMap, laterMap, firstMap, misSized, Outcome, packet, refused, outcome, unsendable, put}
-use Rattle.host.specs.Contract.{sendable, firstPairs}
+use Rattle.host.specs.Write.{requestHeader, requestPacket, echoMap, laterMap, firstMap, oddLength, misSized, Outcome, packet, refused, outcome}
+use Rattle.host.specs.Write.{unsendable, put}
+use Rattle.host.specs.Size.{sendable}
+use Rattle.host.specs.Contract.{firstPairs}
 
 -- a request is eight bytes longer than its map
 pub request-length : (group sequence command : ℕ) (m : List ℕ) → length (requestPacket group sequence command m) ≡ 8 + length m
@@ -208,7 +210,7 @@ first-length-tagged x size tag e =
 
 -- a tag of the right size that is not absent is of 32 bytes
 pub tag-size : (tag : List ℕ) → misSized tag ≡ false → (length tag ≡ 0 → ⊥) → length tag ≡ 32
-unfolding misSized
+unfolding oddLength
 tag-size tag e apart =
     elim (decLe (length tag) 31) [
       | yes a ↦

@@ -1,17 +1,10 @@
 -- Parts of the definitions that functions of their own answer. Only proofs need this file.
 -- Assumes nothing.
 use Prim.Native.Nat.{ℕ}
-use mathlib.Core.Bool.{Bool}
 use mathlib.Core.List.{List, _++_}
-use lib.Dec.{leb}
-use Rattle.laws.specs.Choice.{both}
 use Rattle.cbor.specs.Write.{unsigned, bytesOf, textOf, mapOf}
 use Rattle.map.specs.Keys.{nameData, nameLen, nameOff}
 use Rattle.host.specs.Write.{Outcome, put, requestPacket}
-
--- a packet of this many bytes is not over 65,533 and not longer than the room
-unfoldable pub sendable : ℕ → ℕ → Bool
-sendable total room = both (leb total 65533) (leb total room)
 
 -- a request of command 5 with the payload A0
 abbrev pub emptyRequest : ℕ → ℕ → List ℕ → Outcome

@@ -1,4 +1,5 @@
 pub mod Write
+pub mod Size
 pub mod Read
 pub mod Meant
 pub mod Contract

@@ -1,7 +1,7 @@
--- What is shown of both ends together: what the host writes is read by the controller as the request that was meant, and what the controller
--- writes is read by the host as what it meant.
+-- What is shown of both ends together: what the host writes is read by the controller as the request that was meant, with the sequence number,
+-- group and command that the host wrote, and what the controller writes is read by the host as what it meant.
 -- Assumes nothing.
-use Prim.Native.Nat.{ℕ, _+_, _≤_, _<_}
+use Prim.Native.Nat.{ℕ, _+_, _-_, _≤_, _<_}
 use mathlib.Core.Path.{_≡_}
 use mathlib.Core.Bool.{true, false, not}
 use mathlib.Core.List.{List, []}
@@ -10,45 +10,59 @@ use lib.ListN.{length, take, drop}
 use Rattle.laws.specs.declared.Number.{Number}
 use Rattle.laws.specs.declared.Run.{Run}
 use Rattle.laws.specs.Choice.{pick, both}
-use Rattle.laws.specs.Bytes.{Bytes}
 use Rattle.laws.specs.Parts.{bytesIn, isThere}
 use Rattle.reason.specs.Rc.{rcOf}
 use Rattle.slot.specs.declared.Upload.{Upload}
 use Rattle.slot.specs.Act.{dataIn}
+use Rattle.smp.specs.declared.Header.{Header}
 use Rattle.smp.specs.declared.Request.{Request}
 use Rattle.smp.specs.declared.Reading.{Reading}
 use Rattle.smp.specs.declared.Reply.{Reply as Answered}
 use Rattle.smp.specs.Packet.{headerIn}
 use Rattle.smp.specs.Request.{readRequest, isRequest}
 use Rattle.smp.specs.Reply.{replyMap, replyHeader, replyPacket}
-use Rattle.host.specs.Write.{Outcome, packet, writeEcho, writeReset, writeErase, writeUpload}
+use Rattle.smp.specs.Contract.{Sayable}
+use Rattle.host.specs.Write.{requestHeader, Outcome, packet, writeEcho, writeReset, writeErase, writeUpload}
 use Rattle.host.specs.Read.{reply, readReply}
 
 -- the packet at the start of a buffer, where a writer says that it wrote one of n bytes
 abbrev pub sent : Outcome → ℕ → List ℕ
 sent o n = take n (o .buffer)
 
+-- the header of a request p of this group, sequence number and command
+abbrev pub headed : ℕ → ℕ → ℕ → List ℕ → Header
+headed group sequence command p = requestHeader group sequence command (length p - 8)
+
+-- an echo request p is read as the echo of a text, which stands at `start`
+pub record EchoIs (sequence : ℕ) (text p : List ℕ) (start : ℕ) : Type 0 where
+  pub header : headerIn p ≡ headed 0 sequence 0 p
+  pub read : readRequest p ≡ Reading.Is (Request.Echo start (length text))
+  pub text-is : take (length text) (drop start p) ≡ text
+
 -- an echo that was written is read as the echo of that text
 abbrev pub EchoMeant : Type 0
 EchoMeant =
-    (sequence : ℕ) (text out : List ℕ) (n : ℕ) → sequence < 256 → Bytes text → writeEcho sequence text out .says ≡ packet n
-    → (start : ℕ)
-    × (readRequest (sent (writeEcho sequence text out) n) ≡ Reading.Is (Request.Echo start (length text)))
-    × (take (length text) (drop start (sent (writeEcho sequence text out) n)) ≡ text)
+    (sequence : ℕ) (text out : List ℕ) (n : ℕ) → writeEcho sequence text out .says ≡ packet n
+    → (start : ℕ) × EchoIs sequence text (sent (writeEcho sequence text out) n) start
 
--- so are reset and erase
+-- a request p of command 5 in this group is read as r
+pub record EmptyIs (group sequence : ℕ) (r : Request) (p : List ℕ) : Type 0 where
+  pub header : headerIn p ≡ headed group sequence 5 p
+  pub read : readRequest p ≡ Reading.Is r
+
+-- a reset that was written is read as one
 abbrev pub ResetMeant : Type 0
 ResetMeant =
-    (sequence : ℕ) (out : List ℕ) (n : ℕ) → sequence < 256 → writeReset sequence out .says ≡ packet n → readRequest (sent (writeReset sequence out) n)
-    ≡ Reading.Is Request.Reset
+    (sequence : ℕ) (out : List ℕ) (n : ℕ) → writeReset sequence out .says ≡ packet n → EmptyIs 0 sequence Request.Reset (sent (writeReset sequence out) n)
 
+-- so is an erase
 abbrev pub EraseMeant : Type 0
 EraseMeant =
-    (sequence : ℕ) (out : List ℕ) (n : ℕ) → sequence < 256 → writeErase sequence out .says ≡ packet n → readRequest (sent (writeErase sequence out) n)
-    ≡ Reading.Is Request.Erase
+    (sequence : ℕ) (out : List ℕ) (n : ℕ) → writeErase sequence out .says ≡ packet n → EmptyIs 1 sequence Request.Erase (sent (writeErase sequence out) n)
 
 -- an upload request p is read as u: the offset, the data, and at offset 0 the length and the tag; nothing else is asked
-pub record UploadIs (x : List ℕ) (off size : ℕ) (tag p : List ℕ) (u : Upload) : Type 0 where
+pub record UploadIs (sequence : ℕ) (x : List ℕ) (off size : ℕ) (tag p : List ℕ) (u : Upload) : Type 0 where
+  pub header : headerIn p ≡ headed 1 sequence 1 p
   pub read : readRequest p ≡ Reading.Is (Request.Upload u)
   pub offset : u .off ≡ off
   pub data-is : dataIn p u ≡ x
@@ -62,9 +76,8 @@ pub record UploadIs (x : List ℕ) (off size : ℕ) (tag p : List ℕ) (u : Uplo
 -- an upload that was written is read as the upload of that data
 abbrev pub UploadMeant : Type 0
 UploadMeant =
-    (sequence : ℕ) (x : List ℕ) (off size : ℕ) (tag out : List ℕ) (n : ℕ) → sequence < 256 → Bytes x → Bytes tag
-    → writeUpload sequence x off size tag out .says ≡ packet n
-    → (u : Upload) × UploadIs x off size tag (sent (writeUpload sequence x off size tag out) n) u
+    (sequence : ℕ) (x : List ℕ) (off size : ℕ) (tag out : List ℕ) (n : ℕ) → writeUpload sequence x off size tag out .says ≡ packet n
+    → (u : Upload) × UploadIs sequence x off size tag (sent (writeUpload sequence x off size tag out) n) u
 
 -- the return code, the offset and the text that a reply means; the text stands at `start` in the reply
 unfoldable pub rcMeant : Answered → ℕ
@@ -92,17 +105,10 @@ TextIs s Answered.Done p start = Unit {0}
 TextIs s (Answered.Placed n) p start = Unit {0}
 TextIs s (Answered.Text from len) p start = take len (drop start p) ≡ take len (drop from s)
 
--- a reply that the controller can write: an offset of four bytes, a text that lies in the request
-unfoldable pub Writable : List ℕ → Answered → Type 0
-Writable s (Answered.Refused why) = Unit {0}
-Writable s Answered.Done = Unit {0}
-Writable s (Answered.Placed n) = n < 4294967296
-Writable s (Answered.Text from len) = from + len ≤ length s
-
 -- a reply that was written is read as what it meant
 abbrev pub ReplyMeant : Type 0
 ReplyMeant =
-    (s : List ℕ) (r : Answered) → Bytes s → isRequest s ≡ true → Writable s r → 8 + length (replyMap s r) ≤ 65533
+    (s : List ℕ) (r : Answered) → headerIn s .group < 65536 → isRequest s ≡ true → Sayable s r → 8 + length (replyMap s r) ≤ 65533
     → (start : ℕ)
     × (readReply (replyPacket (headerIn s) (replyMap s r))
     ≡ reply (record { header = replyHeader (headerIn s) (length (replyMap s r)); rc = rcMeant r; off = offMeant r; text = textMeant r start }))

@@ -81,9 +81,13 @@ writeReset sequence out = put (requestPacket 0 sequence 5 (mapOf 0)) out
 unfoldable pub writeErase : ℕ → List ℕ → Outcome
 writeErase sequence out = put (requestPacket 1 sequence 5 (mapOf 0)) out
 
--- a tag is neither absent nor of 32 bytes
-unfoldable pub misSized : List ℕ → Bool
-misSized tag = both (not (eqb (length tag) 0)) (not (eqb (length tag) 32))
+-- a tag of this many bytes is neither absent nor of 32
+unfoldable pub oddLength : ℕ → Bool
+oddLength n = both (not (eqb n 0)) (not (eqb n 32))
+
+-- a tag is
+abbrev pub misSized : List ℕ → Bool
+misSized tag = oddLength (length tag)
 
 -- at offset 0: "a length of 0 or above 4,294,967,295, data longer than the length, or a tag neither absent nor of 32 bytes"
 unfoldable pub writeFirst : ℕ → List ℕ → ℕ → List ℕ → List ℕ → Outcome

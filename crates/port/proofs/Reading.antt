@@ -24,7 +24,7 @@ use Rattle.smp.specs.Packet.{sized}
 use Rattle.smp.proofs.Headers.{two-bytes}
 use Rattle.host.specs.declared.Reply.{Reply}
 use Rattle.host.specs.Read.{Said, reply, refused, orZero, valuesOf, mapRead, isReply, readReply}
-use Rattle.port.specs.Records.{orNone, runStart, runLength}
+use Rattle.port.specs.Records.{runStart, runLength}
 use Rattle.port.specs.Contract.{ReplySmall}
 
 -- a reply that was heard is small
@@ -48,11 +48,6 @@ unfolding above orZero
 zero-small Number.Absent e = omega arith
 zero-small (Number.Is v) e = ltb-false 4294967295 v e
 
-none-small : (n : Number) → above largest n ≡ false → orNone n ≤ 4294967295
-unfolding above orNone
-none-small Number.Absent e = omega arith
-none-small (Number.Is v) e = ltb-false 4294967295 v e
-
 -- a text that lies within the packet ends inside it
 pub run-inside : (s : List ℕ) (x : Run) → Within s x → runStart x + runLength x ≤ length s
 unfolding runStart runLength
@@ -71,7 +66,7 @@ module _ (s : List ℕ) (high : getD s 4 0 < 256) (low : getD s 5 0 < 256) where
         length = omega arith;
         group = omega (arith, two-bytes s 4);
         rc = zero-small (numberIn f Key.Rc) g;
-        off = none-small (numberIn f Key.Off) h;
+        off = zero-small (numberIn f Key.Off) h;
         start = omega arith;
         run = omega arith;
       })))

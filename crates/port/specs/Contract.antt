@@ -8,7 +8,8 @@ use Rattle.reader.specs.declared.Reader.the-variants.{Idle, Open}
 use Rattle.reader.specs.Reader as reading
 use Rattle.slot.specs.declared.Session.{Session}
 use Rattle.host.specs.declared.Reply.{Reply}
-use Rattle.port.specs.Records.{orNone, runStart, runLength}
+use Rattle.host.specs.Read.{orZero}
+use Rattle.port.specs.Records.{runStart, runLength}
 use Rattle.port.specs.Calls.{keepsRecord}
 
 -- a reader's record whose numbers fit
@@ -31,6 +32,6 @@ pub record ReplySmall (r : Reply) : Type 0 where
   pub length : r .header .length ≤ 4294967295
   pub group : r .header .group ≤ 4294967295
   pub rc : r .rc ≤ 4294967295
-  pub off : orNone (r .off) ≤ 4294967295
+  pub off : orZero (r .off) ≤ 4294967295
   pub start : runStart (r .text) ≤ 4294967295
   pub run : runLength (r .text) ≤ 4294967295

@@ -1,7 +1,7 @@
 -- The records as arrays of numbers, as they cross to C. Any number may stand in them.
 -- Assumes nothing.
 use Prim.Native.Nat.{ℕ}
-use mathlib.Core.Bool.{Bool, true, false, not}
+use mathlib.Core.Bool.{Bool, not}
 use mathlib.Core.List.{List, [], _∷_}
 use lib.Dec.{ltb, eqb}
 use lib.ListN.{getD}
@@ -11,16 +11,13 @@ use Rattle.laws.specs.Choice.{pick}
 use Rattle.reader.specs.declared.Reader.{Reader}
 use Rattle.reader.specs.declared.Reader.the-variants.{Idle, Open}
 use Rattle.slot.specs.declared.Session.{Session}
+use Rattle.map.specs.Fields.{flagNumber}
 use Rattle.host.specs.declared.Reply.{Reply}
+use Rattle.host.specs.Read.{orZero}
 
 -- a number as a flag: 0 is false
 abbrev pub flagOf : ℕ → Bool
 flagOf n = not (eqb n 0)
-
--- a flag as a number: 0 or 1
-unfoldable pub numberOfFlag : Bool → ℕ
-numberOfFlag true = 1
-numberOfFlag false = 0
 
 -- the reader's record by its numbers; a first byte that is no byte makes it impossible
 unfoldable pub readerFrom : ℕ → ℕ → ℕ → ℕ → Reader
@@ -45,16 +42,12 @@ sessionOf s = sessionFrom (getD s 0 0) (getD s 1 0) (getD s 2 0) (getD s 3 0)
 
 -- the numbers of a session record
 unfoldable pub sessionNumbers : Session → List ℕ
-sessionNumbers s = numberOfFlag (s .running) ∷ s .length ∷ s .place ∷ numberOfFlag (s .tagged) ∷ []
+sessionNumbers s = flagNumber (s .running) ∷ s .length ∷ s .place ∷ flagNumber (s .tagged) ∷ []
 
--- a number that may be absent: whether it is there, and the number or 0
+-- whether a number is there
 unfoldable pub thereOf : Number → ℕ
 thereOf Number.Absent = 0
 thereOf (Number.Is n) = 1
-
-unfoldable pub orNone : Number → ℕ
-orNone Number.Absent = 0
-orNone (Number.Is n) = n
 
 -- a text that may be absent: whether it is there, where it starts, and its length
 unfoldable pub runThere : Run → ℕ
@@ -81,7 +74,7 @@ replyNumbers r =
     ∷ r .header .command
     ∷ r .rc
     ∷ thereOf (r .off)
-    ∷ orNone (r .off)
+    ∷ orZero (r .off)
     ∷ runThere (r .text)
     ∷ runStart (r .text)
     ∷ runLength (r .text)

@@ -14,11 +14,14 @@ use slot::Slot;
 ghost use mathlib.Core.Path.{_≡_};
 ghost use mathlib.Core.List.{List};
 ghost use Prim.Native.Nat.{_<_, _≤_, ℕ};
-ghost use Rattle.port.specs.Records.{readerNumbers, sessionNumbers, flagOf, numberOfFlag, readerFrom, sessionFrom, thereOf, orNone};
+ghost use Rattle.map.specs.Fields.{flagNumber};
+ghost use Rattle.port.specs.Records.{readerNumbers, sessionNumbers, flagOf, readerFrom, sessionFrom, thereOf};
 ghost use Rattle.port.specs.Records.{runThere, runStart, runLength, replyNumbers};
 ghost use Rattle.port.specs.Calls.{tookLine, keepsRecord, handledC, wroteBy, wroteC, sentFrame, configuredC, readC};
 ghost use Rattle.port.specs.Contract.{Storable, Held32};
 ghost use Rattle.host.specs.Write.{told, packet, writeEcho, writeReset, writeErase, writeUpload, nextSequence};
+ghost use Rattle.host.specs.Size.{mostData};
+ghost use Rattle.host.specs.Read.{orZero};
 ghost use Rattle.port.specs.Contract.{ReplySmall};
 
 // The reader's record out of its four numbers.
@@ -116,7 +119,7 @@ fn flag_of(n: u32) -> bool
 
 // A flag as a number.
 fn number_of_flag(b: bool) -> u32
-    ensures { λ r. ⌜ r ≡ numberOfFlag b ⌝ }
+    ensures { λ r. ⌜ r ≡ flagNumber b ⌝ }
 {
     if b {
         return 1;
@@ -265,6 +268,14 @@ pub extern "C" fn bg_write_upload(
     told_c(w, size)
 }
 
+// The most data that an upload request can carry, for an output of this many bytes: 0 where it can carry none.
+#[no_mangle]
+pub extern "C" fn bg_most_data(out_len: usize, off: u64, length: u64, tag_len: usize) -> u32
+    ensures { λ r. ⌜ r ≡ mostData «out_len» off length «tag_len» ⌝ }
+{
+    host::most_data(out_len, off, length, tag_len) as u32
+}
+
 // Writes frame number k of a body, as a line, to the start of out.
 #[no_mangle]
 pub extern "C" fn bg_send_frame(body: &[u8], k: usize, out: &mut [u8], sent: &mut [u32; 2]) -> u32
@@ -318,8 +329,8 @@ fn there_of(number: Number) -> u32
 
 // A number that may be absent, or 0.
 fn or_none(number: Number) -> u32
-    requires { ⌜ orNone number ≤ 4294967295 ⌝ }
-    ensures { λ r. ⌜ r ≡ orNone number ⌝ }
+    requires { ⌜ orZero number ≤ 4294967295 ⌝ }
+    ensures { λ r. ⌜ r ≡ orZero number ⌝ }
 {
     let Number::Is(n) = number else {
         return 0;

@@ -1,3 +1,4 @@
 pub mod Headers
 pub mod Writing
 pub mod Sound
+pub mod Shorter

@@ -41,7 +41,7 @@ op-most n e =
     ]
 
 -- a reading that is a request passed the test, and is the request of its command
-is-request : (s : List ℕ) (r : Request) → readRequest s ≡ Reading.Is r → (isRequest s ≡ true) × (requestOf (commandOf (headerIn s)) s ≡ r)
+pub is-request : (s : List ℕ) (r : Request) → readRequest s ≡ Reading.Is r → (isRequest s ≡ true) × (requestOf (commandOf (headerIn s)) s ≡ r)
 unfolding readRequest
 is-request s r e =
     let k = pick-keep (isRequest s) (Reading.Is (requestOf (commandOf (headerIn s)) s)) Reading.NotARequest (Reading.Is r) other e in

@@ -1,4 +1,5 @@
--- What the functions that write a reply promise and ask, in words of the definitions. Only proofs need this file.
+-- What the functions that write a reply promise and ask, in words of the definitions. Only proofs, and what is said of replies that were written,
+-- need this file.
 -- Assumes nothing.
 use Prim.{Unit}
 use Prim.Native.Nat.{ℕ, _+_, _≤_, _<_}

@@ -1,10 +1,12 @@
 -- Replies: what each says, and its form.
 -- Assumes nothing.
-use Prim.Native.Nat.{ℕ, _+_}
+use Prim.Native.Nat.{ℕ, _+_, _≤_}
+use mathlib.Core.Path.{_≡_}
 use mathlib.Core.List.{List, _++_}
 use lib.Dec.{ltb}
 use lib.ListN.{length}
 use Rattle.laws.specs.Choice.{pick}
+use Rattle.laws.specs.Bytes.{Bytes}
 use Rattle.laws.specs.Parts.{partOf}
 use Rattle.reason.specs.declared.Reason.{Reason}
 use Rattle.reason.specs.Rc.{rcOf}
@@ -12,7 +14,10 @@ use Rattle.cbor.specs.Write.{unsigned, textOf, mapOf}
 use Rattle.map.specs.Keys.{nameR, nameRc, nameOff}
 use Rattle.smp.specs.declared.Header.{Header}
 use Rattle.smp.specs.declared.Reply.{Reply}
+use Rattle.smp.specs.declared.Request.{Request}
+use Rattle.smp.specs.declared.Reading.{Reading}
 use Rattle.smp.specs.Packet.{headerBytes}
+use Rattle.smp.specs.Request.{readRequest}
 
 -- {"rc": n}
 abbrev pub rcMap : ℕ → List ℕ
@@ -39,3 +44,9 @@ replyBytes h s r room =
     pick (ltb room (8 + length (replyMap s r)))
     (replyPacket h (replyMap s (Reply.Refused Reason.ReplyTooLong)))
     (replyPacket h (replyMap s r))
+
+-- the reply to an echo is no longer than its request
+abbrev pub EchoNoLonger : Type 0
+EchoNoLonger =
+    (s : List ℕ) (start len : ℕ) → Bytes s → readRequest s ≡ Reading.Is (Request.Echo start len)
+    → 8 + length (replyMap s (Reply.Text start len)) ≤ length s

@@ -2,16 +2,16 @@
 -- Assumes nothing.
 use borrow.Author.Tests.{eq-eqb, ne-eqb}
 use Rattle.laws.proofs.Choice.{both-yes, both-no}
-use Rattle.host.specs.Write.{misSized}
+use Rattle.host.specs.Write.{oddLength}
 use Rattle.host.proofs.is_mis_sized.Statement.{statement}
 use Rattle.host.proofs.is_mis_sized.Tie as tie
 
 returns : tie.Need-returns
-unfolding misSized
+unfolding oddLength
 returns c = simp (eq-eqb _ _ (c .if1 .taken), both-no)
 
 returns-2 : tie.Need-returns-2
-unfolding misSized
+unfolding oddLength
 returns-2 c = simp (ne-eqb _ _ (c .if1 .left), both-yes)
 
 pub is-mis-sized-spec : {M : Type 1} → statement M

@@ -4,7 +4,8 @@ use mathlib.Core.Path.{sym, ap, _∙_}
 use Prim.Native.Nat.{ℕ}
 use Rattle.slot.specs.declared.Configured.{Configured}
 use Rattle.slot.specs.Session.{Said, said}
-use Rattle.port.specs.Records.{numberOfFlag, sessionNumbers}
+use Rattle.map.specs.Fields.{flagNumber}
+use Rattle.port.specs.Records.{sessionNumbers}
 use Rattle.port.specs.Calls.{ConfiguredC, configuredBy, configuredC}
 use borrow.Author.Needs.{needs}
 use Rattle.port.proofs.bg_configure.Statement.{statement}
@@ -17,7 +18,7 @@ enum-told : tie.Need-enum-told
 enum-told c = search needs
 
 returns : tie.Need-returns
-unfolding configuredC configuredBy sessionNumbers numberOfFlag
+unfolding configuredC configuredBy sessionNumbers flagNumber
 returns c =
     let a = c .before .before .before .before .before .args in
     sym (ap (λ (x : Configured). configuredBy (a .session .now) (a .tag .now) (said x)) (c .before .before .enum-told .given .1))

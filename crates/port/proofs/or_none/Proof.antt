@@ -2,7 +2,7 @@
 -- Assumes nothing.
 use mathlib.Core.Path.{sym, ap}
 use native.Mathlib.Omega.{arith}
-use Rattle.port.specs.Records.{orNone}
+use Rattle.host.specs.Read.{orZero}
 use borrow.Author.Needs.{needs}
 use Rattle.port.proofs.or_none.Statement.{statement}
 use Rattle.port.proofs.or_none.Tie as tie
@@ -14,16 +14,16 @@ enum-told : tie.Need-enum-told
 enum-told c = search needs
 
 returns : tie.Need-returns
-unfolding orNone
-returns c = sym (ap orNone (c .enum-told .given .1))
+unfolding orZero
+returns c = sym (ap orZero (c .enum-told .given .1))
 
 cast-result : tie.Need-cast-result
-unfolding orNone
-cast-result c = omega (arith, c .before .before .before .pre, ap orNone (c .before .number .given .1))
+unfolding orZero
+cast-result c = omega (arith, c .before .before .before .pre, ap orZero (c .before .number .given .1))
 
 returns-2 : tie.Need-returns-2
-unfolding orNone
-returns-2 c = sym (ap orNone (c .before .number .given .1))
+unfolding orZero
+returns-2 c = sym (ap orZero (c .before .number .given .1))
 
 pub or-none-spec : {M : Type 1} → statement M
 or-none-spec = tie.close (tie.spec enum-known-number enum-told returns cast-result returns-2)

@@ -1,0 +1,136 @@
+-- No head is shorter than the shortest one of its argument, and so a string that was read starts at least so far after its place.
+-- Assumes nothing.
+use mathlib.Core.Path.{_≡_}
+use mathlib.Core.Bool.{not}
+use mathlib.Core.List.{List, [], _∷_}
+use Prim.Native.Nat.{ℕ, suc, _+_, _*_, _-_, _%_, _^_, _≤_, _<_}
+use native.Mathlib.Nat.{add-zero}
+use native.Mathlib.Decide.{decLe}
+use native.Mathlib.Omega.{arith}
+use lib.Dec.{ltb, eqb, lit<}
+use lib.ListN.{length, getD, take, drop, length-take, length-drop}
+use borrow.Author.Tests.{ltb-true, ltb-false}
+use Rattle.laws.specs.Bytes.{Bytes}
+use Rattle.laws.proofs.Choice.{pick-case}
+use Rattle.laws.proofs.Lists.{bytes-tail, bytes-take, bytes-drop}
+use Rattle.cbor.specs.declared.Value.{Value}
+use Rattle.cbor.specs.declared.Head.{Head}
+use Rattle.cbor.specs.declared.Item.{Item}
+use Rattle.cbor.specs.Read.{beAfter, widthOf, headAfter, headAt, stringFrom, valueAfter, itemAt}
+use Rattle.cbor.specs.Write.{headLen}
+use Rattle.cbor.specs.Short.{HeadShort, StringShort, ItemShort}
+use Rattle.cbor.proofs.Numbers.{byte-more}
+use Rattle.cbor.proofs.Laws.{width-is}
+
+-- a number that is read from bytes is below 256 to the power of how many there are
+read-small : (s : List ℕ) (n k : ℕ) → Bytes s → n < 256 ^ k → beAfter n s < 256 ^ (k + length s)
+unfolding beAfter
+read-small [] n k b h = rw add-zero h
+read-small (a ∷ s) n k b h =
+    let e : k + suc (length s) ≡ k + 1 + length s = omega arith in
+    rw e (read-small s (n * 256 + a) (k + 1) (bytes-tail a s b) (byte-more n a k h (b 0)))
+
+-- so is one from w bytes of a longer list
+part-small : (s : List ℕ) (at w : ℕ) → Bytes s → w ≤ length s - at → beAfter 0 (take w (drop at s)) < 256 ^ w
+part-small s at w b h =
+    let e : 0 + length (take w (drop at s)) ≡ w = simp (length-take, length-drop) (omega arith) in
+    rw e at (read-small (take w (drop at s)) 0 0 (bytes-take w (drop at s) (bytes-drop at s b)) (lit< tt))
+
+-- the head of an argument below 24 is one byte
+len-tiny : (n : ℕ) → n < 24 → headLen n ≤ 1
+unfolding headLen
+len-tiny n h =
+    pick-case (λ (k : ℕ). k ≤ 1) (ltb n 24) _ _ (λ e. omega arith) (λ e. absurd (omega (arith, ltb-false n 24 e)))
+
+-- that of an argument in one byte at most two
+len-one : (n : ℕ) → n < 256 → headLen n ≤ 2
+unfolding headLen
+len-one n h =
+    pick-case (λ (k : ℕ). k ≤ 2) (ltb n 24) _ _ (λ e. omega arith)
+    (λ e. pick-case (λ (k : ℕ). k ≤ 2) (ltb n 256) _ _ (λ f. omega arith) (λ f. absurd (omega (arith, ltb-false n 256 f))))
+
+-- in two bytes at most three
+len-two : (n : ℕ) → n < 65536 → headLen n ≤ 3
+unfolding headLen
+len-two n h =
+    pick-case (λ (k : ℕ). k ≤ 3) (ltb n 24) _ _ (λ e. omega arith)
+    (λ e. pick-case (λ (k : ℕ). k ≤ 3) (ltb n 256) _ _ (λ f. omega arith)
+    (λ f. pick-case (λ (k : ℕ). k ≤ 3) (ltb n 65536) _ _ (λ g. omega arith) (λ g. absurd (omega (arith, ltb-false n 65536 g)))))
+
+-- in four bytes at most five
+len-four : (n : ℕ) → n < 4294967296 → headLen n ≤ 5
+unfolding headLen
+len-four n h =
+    pick-case (λ (k : ℕ). k ≤ 5) (ltb n 24) _ _ (λ e. omega arith)
+    (λ e. pick-case (λ (k : ℕ). k ≤ 5) (ltb n 256) _ _ (λ f. omega arith)
+    (λ f. pick-case (λ (k : ℕ). k ≤ 5) (ltb n 65536) _ _ (λ g. omega arith)
+    (λ g. pick-case (λ (k : ℕ). k ≤ 5) (ltb n 4294967296) _ _ (λ h. omega arith) (λ i. absurd (omega (arith, ltb-false n 4294967296 i))))))
+
+-- and never more than nine
+len-most : (n : ℕ) → headLen n ≤ 9
+unfolding headLen
+len-most n =
+    pick-case (λ (k : ℕ). k ≤ 9) (ltb n 24) _ _ (λ e. omega arith)
+    (λ e. pick-case (λ (k : ℕ). k ≤ 9) (ltb n 256) _ _ (λ f. omega arith)
+    (λ f. pick-case (λ (k : ℕ). k ≤ 9) (ltb n 65536) _ _ (λ g. omega arith)
+    (λ g. pick-case (λ (k : ℕ). k ≤ 9) (ltb n 4294967296) _ _ (λ h. omega arith) (λ i. omega arith))))
+
+-- an argument that was read from w bytes has a head of at most one more
+len-wide : (info n : ℕ) → 24 ≤ info → info ≤ 27 → n < 256 ^ widthOf info → headLen n ≤ 1 + widthOf info
+len-wide info n a b h =
+    elim (decLe info 24) [
+      | yes c ↦ let e = width-is info 0 (omega arith) in rw e (len-one n (rw e at h))
+      | no c ↦ elim (decLe info 25) [
+        | yes d ↦ let e = width-is info 1 (omega arith) in rw e (len-two n (rw e at h))
+        | no d ↦ elim (decLe info 26) [
+          | yes f ↦ let e = width-is info 2 (omega arith) in rw e (len-four n (rw e at h))
+          | no f ↦ let e = width-is info 3 (omega arith) in rw e (len-most n)
+        ]
+      ]
+    ]
+
+-- a head that was read is no shorter than the shortest
+pub head-short : (s : List ℕ) (at : ℕ) → Bytes s → HeadShort at (headAt s at)
+unfolding headAt headAfter
+head-short s at b =
+    let P : Head → Type 0 = HeadShort at in
+    let info : ℕ = getD s at 0 % 32 in
+    pick-case P (ltb at (length s)) _ _
+    (λ h. pick-case P (ltb info 24) _ _
+    (λ i. omega (arith, len-tiny info (ltb-true info 24 i)))
+    (λ i. pick-case P (ltb 27 info) _ _
+    (λ j. tt)
+    (λ j. pick-case P (ltb (length s - (at + 1)) (widthOf info)) _ _
+    (λ k. tt)
+    (λ k. omega (
+      arith,
+      len-wide info (beAfter 0 (take (widthOf info) (drop (at + 1) s))) (ltb-false info 24 i) (ltb-false 27 info j)
+          (part-small s (at + 1) (widthOf info) b (ltb-false (length s - (at + 1)) (widthOf info) k)),
+    )))))
+    (λ h. tt)
+
+-- a string after such a head
+string-short : (s : List ℕ) (from n at : ℕ) (v : Value) → StringShort from v → ItemShort from (stringFrom s v n at)
+unfolding stringFrom
+string-short s from n at v h = pick-case (ItemShort from) (ltb (length s - at) n) _ _ (λ i. tt) (λ i. h)
+
+-- a value after such a head
+value-short : (s : List ℕ) (from : ℕ) (h : Head) → HeadShort from h → ItemShort from (valueAfter s h)
+unfolding valueAfter
+value-short s from Head.Malformed w = tt
+value-short s from (Head.Is major n at) w =
+    let P : Item → Type 0 = ItemShort from in
+    pick-case P (eqb major 0) _ _ (λ i. tt)
+    (λ i. pick-case P (eqb major 1) _ _ (λ j. tt)
+    (λ j. pick-case P (eqb major 2) _ _ (λ k. string-short s from n at (Value.Bytes at n) w)
+    (λ k. pick-case P (eqb major 3) _ _ (λ l. string-short s from n at (Value.Text at n) w) (λ l. tt))))
+
+-- a string that was read stands behind a head no shorter than the shortest
+pub item-short : (s : List ℕ) (at : ℕ) → Bytes s → ItemShort at (itemAt s at)
+unfolding itemAt
+item-short s at b =
+    let P : Item → Type 0 = ItemShort at in
+    pick-case P (not (ltb at (length s))) _ _ (λ h. tt)
+    (λ h. pick-case P (eqb (getD s at 0) 0xF4) _ _ (λ i. tt)
+    (λ i. pick-case P (eqb (getD s at 0) 0xF5) _ _ (λ j. tt)
+    (λ j. pick-case P (eqb (getD s at 0) 0xF6) _ _ (λ k. tt) (λ k. value-short s at (headAt s at) (head-short s at b)))))
