@@ -12,7 +12,7 @@ use Rattle.laws.proofs.Lists.{pasted-start}
 use Rattle.base64.specs.declared.Decoded.{Decoded}
 use Rattle.base64.specs.declared.Decoded.the-variants.{Bytes, Bad}
 use Rattle.base64.specs.Base64.{decode}
-use Rattle.base64.specs.Contract.{Decodes, lengthIn}
+use Rattle.base64.specs.Inner.{Decodes, lengthIn}
 use Rattle.base64.proofs.Laws.{stored-good, decode-length}
 
 -- an answer that is bad is that of nothing

@@ -15,7 +15,7 @@ use Rattle.laws.specs.Bytes.{Bytes}
 use Rattle.laws.proofs.Choice.{pick-yes, pick-no, pick-case, pick-keep, both-yes, both-true}
 use Rattle.laws.proofs.Lists.{bytes-none, bytes-cons, bytes-join}
 use Rattle.base64.specs.Base64.{char, value, pad, encode, known, first, second, third, full, three, final, ahead, decode, DecodeEncode, EncodeDecode}
-use Rattle.base64.specs.Contract.{bytesIn, kept, stored}
+use Rattle.base64.specs.Inner.{bytesIn, kept, stored}
 
 -- a test that holds of every number below n
 every : (ℕ → Bool) → ℕ → Bool

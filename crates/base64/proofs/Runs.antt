@@ -17,8 +17,7 @@ use Rattle.laws.proofs.Choice.{pick-yes, pick-no}
 use Rattle.laws.proofs.Lists.{pasted-none, pasted-twice}
 use Rattle.base64.specs.declared.Decoded.the-variants.{Bytes, Bad}
 use Rattle.base64.specs.Base64.{final, ahead, decode}
-use Rattle.base64.specs.Contract.{Decodes, lengthIn, bytesIn, kept, stored}
-use Rattle.base64.specs.Inner.{fullAt, threeAt, finalAt, Group, Passed, Groups, Last}
+use Rattle.base64.specs.Inner.{Decodes, lengthIn, bytesIn, kept, stored, fullAt, threeAt, finalAt, Group, Passed, Groups, Last}
 use Rattle.base64.proofs.Laws.{three-length, decode-more, decode-groups, final-length, kept-more}
 
 -- four elements from a place on, and the rest

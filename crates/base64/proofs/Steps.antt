@@ -15,8 +15,7 @@ use Rattle.laws.specs.Bytes.{pasted}
 use Rattle.laws.proofs.Choice.{pick-yes, pick-no, both-yes, both-no, both-last-no}
 use Rattle.laws.proofs.Lists.{pasted-none}
 use Rattle.base64.specs.Base64.{value, pad, first, second, third, full, three, final}
-use Rattle.base64.specs.Contract.{bytesIn}
-use Rattle.base64.specs.Inner.{Group, Last, fullAt, threeAt, finalAt}
+use Rattle.base64.specs.Inner.{bytesIn, Group, Last, fullAt, threeAt, finalAt}
 use Rattle.base64.proofs.Laws.{known-all}
 
 -- a bitwise or is at least its first number

@@ -9,8 +9,7 @@ use lib.ListN.{length, getD, take, drop, set, length-take, take-append-drop, dro
 use lib.Seq.{drop-cons, take-add, take-all}
 use Rattle.laws.specs.Bytes.{pasted}
 use Rattle.base64.specs.Base64.{char, pad, encode}
-use Rattle.base64.specs.Contract.{Encodes}
-use Rattle.base64.specs.Inner.{headText, textOfThree}
+use Rattle.base64.specs.Inner.{Encodes, headText, textOfThree}
 use Rattle.base64.proofs.Laws.{encode-length}
 use Rattle.base64.proofs.Steps.{store-four}
 use Rattle.base64.proofs.Runs.{pasted-next}

@@ -4,7 +4,7 @@ ghost use Prim.Native.Nat.{_+_, _*_, _/_, _<_, _≤_};
 ghost use lib.ListN.{length, getD};
 ghost use Rattle.laws.specs.Bytes.{pasted};
 ghost use Rattle.base64.specs.Base64.{char, value, pad};
-ghost use Rattle.base64.specs.Contract.{Decodes, Encodes};
+ghost use Rattle.base64.specs.Inner.{Decodes, Encodes};
 ghost use Rattle.base64.specs.Inner.{Values, Chars, Group, Groups, Last, finalAt, headText, textOfThree, textOfOne, textOfTwo};
 
 // What a text decodes to: this many bytes, or it is not well formed.

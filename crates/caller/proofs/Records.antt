@@ -9,12 +9,13 @@ use Rattle.laws.proofs.Choice.{pick-yes, pick-no}
 use Rattle.reader.specs.declared.Reader.{Reader}
 use Rattle.reader.specs.declared.Reader.the-variants.{Idle, Open}
 use Rattle.slot.specs.declared.Session.{Session}
-use Rattle.port.specs.Records.{flagOf, numberOfFlag, readerFrom, readerNumbers, sessionNumbers}
+use Rattle.map.specs.Fields.{flagNumber}
+use Rattle.port.specs.Records.{flagOf, readerFrom, readerNumbers, sessionNumbers}
 use Rattle.caller.specs.Records.{SessionBack, FirstByte, ReaderBack}
 
 -- a flag that was stored is read back
-flag-back : (b : Bool) → flagOf (numberOfFlag b) ≡ b
-unfolding numberOfFlag
+flag-back : (b : Bool) → flagOf (flagNumber b) ≡ b
+unfolding flagNumber
 flag-back true = refl
 flag-back false = refl
 

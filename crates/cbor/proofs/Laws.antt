@@ -19,7 +19,7 @@ use Rattle.cbor.specs.declared.Head.{Head}
 use Rattle.cbor.specs.declared.Item.{Item}
 use Rattle.cbor.specs.Read.{beAfter, widthOf, headAfter, headAt, stringFrom, valueAfter, itemAt}
 use Rattle.cbor.specs.Write.{beBytes, headOf, headLen, HeadLong, bytesOf, textOf}
-use Rattle.cbor.specs.Within.{Inside, HeadWithin, ItemWithin}
+use Rattle.cbor.specs.Inner.{Inside, HeadWithin, ItemWithin}
 use Rattle.cbor.proofs.Numbers.{bytes-length, number-back}
 
 -- an initial byte of 24 and k more says a width of 2 to the k

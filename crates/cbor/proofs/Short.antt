@@ -18,7 +18,7 @@ use Rattle.cbor.specs.declared.Head.{Head}
 use Rattle.cbor.specs.declared.Item.{Item}
 use Rattle.cbor.specs.Read.{beAfter, widthOf, headAfter, headAt, stringFrom, valueAfter, itemAt}
 use Rattle.cbor.specs.Write.{headLen}
-use Rattle.cbor.specs.Short.{HeadShort, StringShort, ItemShort}
+use Rattle.cbor.specs.Inner.{HeadShort, StringShort, ItemShort}
 use Rattle.cbor.proofs.Numbers.{byte-more}
 use Rattle.cbor.proofs.Laws.{width-is}
 

@@ -1,5 +1,3 @@
 pub mod Read
 pub mod Write
-pub mod Put
-pub mod Within
-pub mod Short
+pub mod Inner

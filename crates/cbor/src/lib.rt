@@ -7,7 +7,7 @@ ghost use lib.ListN.{length, getD, take, drop};
 ghost use Rattle.cbor.specs.Read.{beAfter, widthOf, headAt, stringFrom, valueAfter, itemAt};
 ghost use Rattle.cbor.specs.Write.{beBytes, headOf};
 ghost use Rattle.laws.specs.Bytes.{pasted};
-ghost use Rattle.cbor.specs.Put.{Put};
+ghost use Rattle.cbor.specs.Inner.{Put};
 
 // One item's value. A string is named by where it starts in the bytes that were read, and its length.
 pub enum Value {

@@ -28,8 +28,8 @@ use Rattle.smp.specs.declared.Header.{Header}
 use Rattle.smp.specs.declared.Reply.{Reply}
 use Rattle.smp.specs.Packet.{headerIn}
 use Rattle.smp.specs.Request.{readRequest}
-use Rattle.smp.specs.Reply.{replyBytes}
-use Rattle.smp.specs.Contract.{Written, Sayable}
+use Rattle.smp.specs.Reply.{replyBytes, Sayable}
+use Rattle.smp.specs.Inner.{Written}
 use Rattle.smp.proofs.Sound.{upload-inside, echo-inside, request-sized}
 use Rattle.controller.specs.Doing.{actFor, replyTo, replyFor, asksReset}
 use Rattle.controller.specs.Handle.{

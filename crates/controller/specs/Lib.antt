@@ -1,4 +1,4 @@
 pub mod Doing
 pub mod Handle
 pub mod Calls
-pub mod Contract
+pub mod Inner

@@ -17,7 +17,7 @@ ghost use Rattle.slot.specs.Session.{stateOf, possible};
 ghost use Rattle.smp.specs.Request.{readRequest};
 ghost use Rattle.controller.specs.Doing.{replyTo, asksReset};
 ghost use Rattle.controller.specs.Handle.{Taking, outcome, handled, handle};
-ghost use Rattle.controller.specs.Contract.{Carried};
+ghost use Rattle.controller.specs.Inner.{Carried};
 ghost use Rattle.controller.specs.Calls.{Ran};
 
 // What the request call says.

@@ -27,8 +27,7 @@ use Rattle.smp.specs.declared.Reading.{Reading}
 use Rattle.smp.specs.declared.Reply.{Reply as Answered}
 use Rattle.smp.specs.Packet.{headerIn}
 use Rattle.smp.specs.Request.{readRequest}
-use Rattle.smp.specs.Reply.{rcMap, replyMap, replyHeader, replyPacket, replyBytes}
-use Rattle.smp.specs.Contract.{Sayable}
+use Rattle.smp.specs.Reply.{rcMap, replyMap, replyHeader, replyPacket, replyBytes, Sayable}
 use Rattle.smp.proofs.Sound.{is-request, request-sized}
 use Rattle.smp.proofs.Writing.{head-word, rc-room, rc-fits, placed-map, placed-fits, packet-length}
 use Rattle.smp.proofs.Shorter.{echo-no-longer}

@@ -20,7 +20,7 @@ use Rattle.map.proofs.Laws.{walked}
 use Rattle.smp.specs.declared.Reply.{Reply as Answered}
 use Rattle.smp.specs.Reply.{rcMap, replyMap}
 use Rattle.host.specs.Write.{laterMap, firstMap}
-use Rattle.host.specs.Contract.{firstPairs}
+use Rattle.host.specs.Inner.{firstPairs}
 use Rattle.host.proofs.Writing.{later-parts, first-untagged, first-tagged}
 use Rattle.host.proofs.Walking.{step-number, step-bytes, step-text, string-there, map-start, walk-over, next-part, last-part}
 

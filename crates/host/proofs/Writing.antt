@@ -13,7 +13,7 @@ use lib.Seq.{take-at}
 use Rattle.laws.specs.Bytes.{pasted}
 use Rattle.laws.proofs.Choice.{pick-yes, pick-no, both-yes, both-true}
 use Rattle.laws.proofs.Lists.{pasted-start}
-use Rattle.cbor.specs.Put.{Put}
+use Rattle.cbor.specs.Inner.{Put}
 use Rattle.cbor.specs.Write.{headOf, unsigned, bytesOf, textOf, mapOf}
 use Rattle.cbor.proofs.Laws.{head-size, head-length, form-one, form-eight}
 use Rattle.map.specs.Keys.{nameD, nameData, nameLen, nameOff, nameSha}
@@ -24,7 +24,7 @@ use Rattle.host.specs.declared.Written.the-variants.{Packet}
 use Rattle.host.specs.Write.{requestHeader, requestPacket, echoMap, laterMap, firstMap, oddLength, misSized, Outcome, packet, refused, outcome}
 use Rattle.host.specs.Write.{unsendable, put}
 use Rattle.host.specs.Size.{sendable}
-use Rattle.host.specs.Contract.{firstPairs}
+use Rattle.host.specs.Inner.{firstPairs}
 
 -- a request is eight bytes longer than its map
 pub request-length : (group sequence command : ℕ) (m : List ℕ) → length (requestPacket group sequence command m) ≡ 8 + length m

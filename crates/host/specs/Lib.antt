@@ -2,4 +2,4 @@ pub mod Write
 pub mod Size
 pub mod Read
 pub mod Meant
-pub mod Contract
+pub mod Inner

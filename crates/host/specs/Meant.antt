@@ -20,8 +20,7 @@ use Rattle.smp.specs.declared.Reading.{Reading}
 use Rattle.smp.specs.declared.Reply.{Reply as Answered}
 use Rattle.smp.specs.Packet.{headerIn}
 use Rattle.smp.specs.Request.{readRequest, isRequest}
-use Rattle.smp.specs.Reply.{replyMap, replyHeader, replyPacket}
-use Rattle.smp.specs.Contract.{Sayable}
+use Rattle.smp.specs.Reply.{replyMap, replyHeader, replyPacket, Sayable}
 use Rattle.host.specs.Write.{requestHeader, Outcome, packet, writeEcho, writeReset, writeErase, writeUpload}
 use Rattle.host.specs.Read.{reply, readReply}
 

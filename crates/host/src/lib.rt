@@ -11,7 +11,7 @@ ghost use mathlib.Core.List.{_++_};
 ghost use Prim.Native.Nat.{_+_, _-_, _≤_};
 ghost use lib.ListN.{length};
 ghost use Rattle.laws.specs.Bytes.{pasted};
-ghost use Rattle.cbor.specs.Put.{Put};
+ghost use Rattle.cbor.specs.Inner.{Put};
 ghost use Rattle.cbor.specs.Write.{bytesOf, textOf};
 ghost use Rattle.slot.specs.Plan.{above, largest};
 ghost use Rattle.smp.specs.Packet.{headerBytes};
@@ -19,7 +19,7 @@ ghost use Rattle.host.specs.Write.{requestHeader, requestPacket, echoMap
 ghost use Rattle.host.specs.Write.{writeEcho, writeReset, writeErase, writeFirst, writeUpload, nextSequence};
 ghost use Rattle.host.specs.Size.{sendable, laterOver, firstOver, mostIn, mostPast, mostFirst, mostData};
 ghost use Rattle.host.specs.Read.{said, orZero, replyWith, valuesOf, isReply, readReply};
-ghost use Rattle.host.specs.Contract.{emptyRequest, firstPairs};
+ghost use Rattle.host.specs.Inner.{emptyRequest, firstPairs};
 
 // What a request writer says.
 pub enum Written {

@@ -17,7 +17,7 @@ use Rattle.cbor.specs.declared.Value.the-variants.{Unsigned, Negative, Bytes, T
 use Rattle.cbor.specs.declared.Head.{Head}
 use Rattle.cbor.specs.declared.Item.{Item}
 use Rattle.cbor.specs.Read.{headAt, itemAt}
-use Rattle.cbor.specs.Within.{Inside, ItemWithin}
+use Rattle.cbor.specs.Inner.{Inside, ItemWithin}
 use Rattle.cbor.proofs.Laws.{item-within}
 use Rattle.map.specs.declared.Kind.{Kind}
 use Rattle.map.specs.declared.Key.{Key}

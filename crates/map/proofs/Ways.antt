@@ -36,7 +36,7 @@ use Rattle.map.specs.Walk.{
   endingAt,
   mapFrom,
 }
-use Rattle.map.specs.Contract.{placeIn, Finds, isMap, Reads}
+use Rattle.map.specs.Inner.{placeIn, Finds, isMap, Reads}
 
 -- a promise kept: what is read is malformed, or reaches a place with the fields that stand there
 pub finds-bad : {w : Found} {e : List ℕ} → w ≡ malformed → Finds w Walked.Malformed e

@@ -1,4 +1,4 @@
 pub mod Keys
 pub mod Fields
 pub mod Walk
-pub mod Contract
+pub mod Inner

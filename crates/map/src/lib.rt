@@ -12,7 +12,7 @@ ghost use Rattle.laws.specs.Bytes.{same};
 ghost use Rattle.map.specs.Keys.{keyOf, typeOf, typeFor};
 ghost use Rattle.map.specs.Fields.{placeOf, nothing, flagNumber, firstOf, secondOf, stored, numberIn, runIn, flagIn};
 ghost use Rattle.map.specs.Walk.{entered, valued, pairAt, pairs, mapAt, mapFrom};
-ghost use Rattle.map.specs.Contract.{laterName, Finds, Reads};
+ghost use Rattle.map.specs.Inner.{laterName, Finds, Reads};
 
 // Whose map it is: what differs is which keys are known.
 pub enum Kind {

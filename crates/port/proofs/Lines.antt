@@ -45,7 +45,7 @@ use Rattle.reader.specs.Reader.{
 }
 use Rattle.port.specs.Records.{readerOf, readerNumbers}
 use Rattle.port.specs.Calls.{TookLine, keepsRecord, tookBy, tookLine}
-use Rattle.port.specs.Contract.{SmallBy}
+use Rattle.port.specs.Inner.{SmallBy}
 
 -- an outcome can be handed over
 abbrev Small : Outcome → Type 0

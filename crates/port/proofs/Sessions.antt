@@ -24,8 +24,7 @@ use Rattle.smp.specs.declared.Reply.{Reply}
 use Rattle.smp.specs.declared.Reading.{Reading}
 use Rattle.smp.specs.Packet.{headerIn}
 use Rattle.smp.specs.Request.{readRequest}
-use Rattle.smp.specs.Reply.{rcMap, replyMap, replyPacket, replyBytes}
-use Rattle.smp.specs.Contract.{Sayable}
+use Rattle.smp.specs.Reply.{rcMap, replyMap, replyPacket, replyBytes, Sayable}
 use Rattle.smp.proofs.Writing.{rc-length, placed-length, packet-length, rc-map, text-map}
 use Rattle.controller.specs.declared.Handled.{Handled}
 use Rattle.controller.specs.declared.Answer.{Answer}
@@ -52,7 +51,7 @@ use Rattle.controller.proofs.Laws.{taking-impossible, handle-refused, reply-say
 use Rattle.controller.proofs.Calls.{call-fit}
 use Rattle.port.specs.Records.{sessionOf, sessionNumbers}
 use Rattle.port.specs.Calls.{HandledC, handledBy, handledC}
-use Rattle.port.specs.Contract.{Held32}
+use Rattle.port.specs.Inner.{Held32}
 
 -- an act that is fit leaves small numbers small
 fit-small : (slot : Slot) (st : State) (a : Act) → slot .size ≤ 1048576 → Held32 (st .session) → Fit slot (st .session) a → Held32 (done slot a st .session)

@@ -1,3 +1,3 @@
 pub mod Records
 pub mod Calls
-pub mod Contract
+pub mod Inner

@@ -18,11 +18,11 @@ ghost use Rattle.map.specs.Fields.{flagNumber};
 ghost use Rattle.port.specs.Records.{readerNumbers, sessionNumbers, flagOf, readerFrom, sessionFrom, thereOf};
 ghost use Rattle.port.specs.Records.{runThere, runStart, runLength, replyNumbers};
 ghost use Rattle.port.specs.Calls.{tookLine, keepsRecord, handledC, wroteBy, wroteC, sentFrame, configuredC, readC};
-ghost use Rattle.port.specs.Contract.{Storable, Held32};
+ghost use Rattle.port.specs.Inner.{Storable, Held32};
 ghost use Rattle.host.specs.Write.{told, packet, writeEcho, writeReset, writeErase, writeUpload, nextSequence};
 ghost use Rattle.host.specs.Size.{mostData};
 ghost use Rattle.host.specs.Read.{orZero};
-ghost use Rattle.port.specs.Contract.{ReplySmall};
+ghost use Rattle.port.specs.Inner.{ReplySmall};
 
 // The reader's record out of its four numbers.
 fn reader_from(open: u32, total: u32, come: u32, first: u32) -> Reader

@@ -1,4 +1,4 @@
--- What the inner functions of the reader promise each other. Only the proofs need it: no promise to a caller cites it.
+-- Only proofs need this file: what the inner functions of the reader promise each other.
 -- Assumes nothing.
 use mathlib.Core.Path.{_≡_}
 use Prim.Native.Nat.{ℕ, _≤_, _<_}

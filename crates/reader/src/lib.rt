@@ -9,7 +9,7 @@ ghost use lib.ListN.{length, getD, take};
 ghost use Rattle.laws.specs.Bytes.{ofBe16};
 ghost use Rattle.crc.specs.Crc.{crcOf};
 ghost use Rattle.base64.specs.Base64.{decode};
-ghost use Rattle.base64.specs.Contract.{Decodes};
+ghost use Rattle.base64.specs.Inner.{Decodes};
 ghost use Rattle.frame.specs.Line.{longest, rawMost, beginsWith, textOf};
 ghost use Rattle.reader.specs.Reader.{outcome, crcBytes, filled, waiting, completed, absorb, begin, resume, framed, takeLine};
 ghost use Rattle.reader.specs.Inner.{Starts};

@@ -1,6 +1,5 @@
--- What the reader's record and buffer stand for in the middle of a packet, and what becomes of a packet's bytes. Here u is the list of
--- all body and CRC bytes that have come since total, and q is the packet buffer as it was at the packet's start. Only the proofs need it: no
--- statement cites it.
+-- Only proofs need this file: what the reader's record and buffer stand for in the middle of a packet, and what becomes of a packet's bytes. Here u is the
+-- list of all body and CRC bytes that have come since total, and q is the packet buffer as it was at the packet's start.
 -- Assumes nothing.
 use Prim.Native.Nat.{ℕ, _+_, _-_}
 use mathlib.Core.List.{List, _++_}

@@ -1,5 +1,4 @@
--- A frame's raw bytes in three parts: the packet's total in frame 0, a run of the body, and the CRC in the last frame. Only the proofs
--- need it: no promise to a caller cites it.
+-- Only proofs need this file: a frame's raw bytes in three parts, the packet's total in frame 0, a run of the body, and the CRC in the last frame.
 -- Assumes nothing.
 use Prim.Native.Nat.{ℕ, _+_, _-_, min}
 use mathlib.Core.List.{List, []}

@@ -23,8 +23,7 @@ use Rattle.cbor.specs.declared.Head.{Head}
 use Rattle.cbor.specs.declared.Item.{Item}
 use Rattle.cbor.specs.Read.{headAt, itemAt}
 use Rattle.cbor.specs.Write.{headLen}
-use Rattle.cbor.specs.Within.{HeadWithin, ItemWithin}
-use Rattle.cbor.specs.Short.{StringShort, ItemShort}
+use Rattle.cbor.specs.Inner.{HeadWithin, ItemWithin, StringShort, ItemShort}
 use Rattle.cbor.proofs.Laws.{head-long, head-within, item-within}
 use Rattle.cbor.proofs.Short.{item-short}
 use Rattle.map.specs.declared.Kind.{Kind}

@@ -14,7 +14,7 @@ use lib.Seq.{drop-at}
 use Rattle.laws.specs.Bytes.{pasted, be16}
 use Rattle.laws.proofs.Choice.{pick-yes, pick-no}
 use Rattle.laws.proofs.Lists.{pasted-is, pasted-start, pasted-twice}
-use Rattle.cbor.specs.Put.{Put}
+use Rattle.cbor.specs.Inner.{Put}
 use Rattle.cbor.specs.Write.{headOf, unsigned, textOf, mapOf}
 use Rattle.cbor.proofs.Laws.{head-size, head-length, form-tiny, form-one, form-two, form-four}
 use Rattle.reason.specs.declared.Reason.{Reason}
@@ -23,7 +23,7 @@ use Rattle.smp.specs.declared.Header.{Header}
 use Rattle.smp.specs.declared.Reply.{Reply}
 use Rattle.smp.specs.Packet.{headerBytes}
 use Rattle.smp.specs.Reply.{rcMap, replyMap, replyHeader, replyPacket, replyBytes}
-use Rattle.smp.specs.Contract.{Written}
+use Rattle.smp.specs.Inner.{Written}
 use Rattle.smp.proofs.Headers.{header-length}
 
 -- what is written where a first list ended stands joined to it

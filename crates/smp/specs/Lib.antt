@@ -1,4 +1,4 @@
 pub mod Packet
 pub mod Request
 pub mod Reply
-pub mod Contract
+pub mod Inner

@@ -1,6 +1,7 @@
 -- Replies: what each says, and its form.
 -- Assumes nothing.
-use Prim.Native.Nat.{ℕ, _+_, _≤_}
+use Prim.{Unit}
+use Prim.Native.Nat.{ℕ, _+_, _≤_, _<_}
 use mathlib.Core.Path.{_≡_}
 use mathlib.Core.List.{List, _++_}
 use lib.Dec.{ltb}
@@ -44,6 +45,13 @@ replyBytes h s r room =
     pick (ltb room (8 + length (replyMap s r)))
     (replyPacket h (replyMap s (Reply.Refused Reason.ReplyTooLong)))
     (replyPacket h (replyMap s r))
+
+-- a reply can be said of a request s: an offset is below 2^32, and a text lies inside s, which is no longer than a packet may be
+abbrev pub Sayable : List ℕ → Reply → Type 0
+Sayable s (Reply.Refused why) = Unit {0}
+Sayable s Reply.Done = Unit {0}
+Sayable s (Reply.Placed n) = n < 4294967296
+Sayable s (Reply.Text start len) = (start + len ≤ length s) × (length s ≤ 65533)
 
 -- the reply to an echo is no longer than its request
 abbrev pub EchoNoLonger : Type 0

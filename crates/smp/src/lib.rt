@@ -12,12 +12,12 @@ ghost use Prim.Native.Nat.{_+_, _≤_, _<_};
 ghost use lib.Dec.{ltb};
 ghost use lib.ListN.{length, drop};
 ghost use Rattle.laws.specs.Bytes.{pasted, ofBe16};
-ghost use Rattle.cbor.specs.Put.{Put};
+ghost use Rattle.cbor.specs.Inner.{Put};
 ghost use Rattle.cbor.specs.Write.{unsigned, textOf};
 ghost use Rattle.smp.specs.Packet.{headerIn, sized, headerBytes};
 ghost use Rattle.smp.specs.Request.{commandOf, uploadOf, requestOf, isRequest, readRequest};
-ghost use Rattle.smp.specs.Reply.{rcMap, replyMap, replyHeader, replyPacket};
-ghost use Rattle.smp.specs.Contract.{Written, Sayable};
+ghost use Rattle.smp.specs.Reply.{rcMap, replyMap, replyHeader, replyPacket, Sayable};
+ghost use Rattle.smp.specs.Inner.{Written};
 
 // The eight bytes before a packet's map.
 pub struct Header {

@@ -10,7 +10,7 @@ use Rattle.smp.specs.declared.Request.{Request}
 use Rattle.smp.specs.declared.Reading.{Reading}
 use Rattle.smp.proofs.Sound.{upload-inside}
 use Rattle.controller.specs.Doing.{actFor, replyFor}
-use Rattle.controller.specs.Contract.{Carried}
+use Rattle.controller.specs.Inner.{Carried}
 use borrow.Author.Needs.{needs}
 use Rattle.controller.proofs.carry.Statement.{statement}
 use Rattle.controller.proofs.carry.Tie as tie

@@ -7,7 +7,7 @@ use Rattle.slot.specs.Session.{State, stateOf}
 use Rattle.slot.specs.Act.{done}
 use Rattle.smp.specs.declared.Header.{Header}
 use Rattle.smp.specs.declared.Reply.{Reply}
-use Rattle.smp.specs.Contract.{Sayable}
+use Rattle.smp.specs.Reply.{Sayable}
 use Rattle.smp.proofs.Sound.{request-sized}
 use Rattle.controller.specs.Doing.{actFor, replyFor}
 use Rattle.controller.proofs.Laws.{carried-reset, carried-plain, reply-sayable}

@@ -8,7 +8,7 @@ use lib.ListN.{length}
 use Rattle.cbor.specs.Write.{bytesOf, textOf, mapOf}
 use Rattle.map.specs.Keys.{nameSha}
 use Rattle.smp.proofs.Writing.{put-then, room-first, room-rest}
-use Rattle.host.specs.Contract.{firstPairs}
+use Rattle.host.specs.Inner.{firstPairs}
 use Rattle.host.proofs.Writing.{first-untagged, first-tagged}
 use borrow.Author.Needs.{needs}
 use Rattle.host.proofs.put_first.Statement.{statement}

@@ -6,7 +6,7 @@ use Rattle.reader.specs.declared.Answer.{Answer}
 use Rattle.reader.specs.Reader.{said}
 use Rattle.port.specs.Records.{readerNumbers}
 use Rattle.port.specs.Calls.{keepsRecord}
-use Rattle.port.specs.Contract.{SmallBy}
+use Rattle.port.specs.Inner.{SmallBy}
 use Rattle.port.proofs.Lines.{took-is, taken-small, took-more, took-body, took-refused, record-kept, record-stored}
 use borrow.Author.Needs.{needs}
 use Rattle.port.proofs.bg_take_line.Statement.{statement}

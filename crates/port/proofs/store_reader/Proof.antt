@@ -3,7 +3,7 @@
 use mathlib.Core.Path.{sym, ap, subst}
 use native.Mathlib.Omega.{arith}
 use Rattle.port.specs.Records.{readerNumbers}
-use Rattle.port.specs.Contract.{Storable}
+use Rattle.port.specs.Inner.{Storable}
 use borrow.Author.Needs.{needs}
 use Rattle.port.proofs.store_reader.Statement.{statement}
 use Rattle.port.proofs.store_reader.Tie as tie

@@ -1,5 +1,5 @@
--- What the functions of the walk promise, in words of the definitions. Of a malformed map they say nothing more: its fields are not looked at.
--- Only proofs need this file.
+-- Only proofs need this file: what the functions of the walk promise, in words of the definitions. Of a malformed map they say nothing more: its fields
+-- are not looked at.
 -- Assumes nothing.
 use mathlib.Core.Path.{_≡_}
 use mathlib.Core.Bool.{Bool, true, false}

@@ -1,4 +1,4 @@
--- Parts of the definitions that functions of their own answer. Only proofs need this file.
+-- Only proofs need this file: parts of the definitions that functions of their own answer.
 -- Assumes nothing.
 use Prim.Native.Nat.{ℕ}
 use mathlib.Core.List.{List, _++_}

@@ -1,4 +1,4 @@
--- Which records and answers the arrays of 32-bit numbers can hold. Only proofs need this file.
+-- Only proofs need this file: which records and answers the arrays of 32-bit numbers can hold.
 -- Assumes nothing.
 use Prim.Native.Nat.{_≤_, _<_}
 use mathlib.Core.Path.{_≡_}

@@ -1,4 +1,4 @@
--- What carrying a request out promises: the state after its act, and what is replied. Only proofs need this file.
+-- Only proofs need this file: what carrying a request out promises, the state after its act and what is replied.
 -- Assumes nothing.
 use Prim.Native.Nat.{ℕ}
 use mathlib.Core.Path.{_≡_}
