@@ -2,4 +2,4 @@ pub mod Read
 pub mod Write
 pub mod Put
 pub mod Within
-pub mod Short
+pub mod Least
