@@ -198,6 +198,45 @@ head-long m n = head-size m n ∙ ways (ltb n 24) (ltb n 256) (ltb n 65536) (ltb
     ways false false false true = refl
     ways false false false false = refl
 
+-- the shortest head of an argument below 24 is one byte
+pub len-tiny : (n : ℕ) → n < 24 → headLen n ≤ 1
+unfolding headLen
+len-tiny n h =
+    pick-case (λ (k : ℕ). k ≤ 1) (ltb n 24) _ _ (λ e. omega arith) (λ e. absurd (omega (arith, ltb-false n 24 e)))
+
+-- that of an argument in one byte at most two
+pub len-one : (n : ℕ) → n < 256 → headLen n ≤ 2
+unfolding headLen
+len-one n h =
+    pick-case (λ (k : ℕ). k ≤ 2) (ltb n 24) _ _ (λ e. omega arith)
+    (λ e. pick-case (λ (k : ℕ). k ≤ 2) (ltb n 256) _ _ (λ f. omega arith) (λ f. absurd (omega (arith, ltb-false n 256 f))))
+
+-- in two bytes at most three
+pub len-two : (n : ℕ) → n < 65536 → headLen n ≤ 3
+unfolding headLen
+len-two n h =
+    pick-case (λ (k : ℕ). k ≤ 3) (ltb n 24) _ _ (λ e. omega arith)
+    (λ e. pick-case (λ (k : ℕ). k ≤ 3) (ltb n 256) _ _ (λ f. omega arith)
+    (λ f. pick-case (λ (k : ℕ). k ≤ 3) (ltb n 65536) _ _ (λ g. omega arith) (λ g. absurd (omega (arith, ltb-false n 65536 g)))))
+
+-- in four bytes at most five
+pub len-four : (n : ℕ) → n < 4294967296 → headLen n ≤ 5
+unfolding headLen
+len-four n h =
+    pick-case (λ (k : ℕ). k ≤ 5) (ltb n 24) _ _ (λ e. omega arith)
+    (λ e. pick-case (λ (k : ℕ). k ≤ 5) (ltb n 256) _ _ (λ f. omega arith)
+    (λ f. pick-case (λ (k : ℕ). k ≤ 5) (ltb n 65536) _ _ (λ g. omega arith)
+    (λ g. pick-case (λ (k : ℕ). k ≤ 5) (ltb n 4294967296) _ _ (λ i. omega arith) (λ i. absurd (omega (arith, ltb-false n 4294967296 i))))))
+
+-- and never more than nine
+pub len-most : (n : ℕ) → headLen n ≤ 9
+unfolding headLen
+len-most n =
+    pick-case (λ (k : ℕ). k ≤ 9) (ltb n 24) _ _ (λ e. omega arith)
+    (λ e. pick-case (λ (k : ℕ). k ≤ 9) (ltb n 256) _ _ (λ f. omega arith)
+    (λ f. pick-case (λ (k : ℕ). k ≤ 9) (ltb n 65536) _ _ (λ g. omega arith)
+    (λ g. pick-case (λ (k : ℕ). k ≤ 9) (ltb n 4294967296) _ _ (λ h. omega arith) (λ h. omega arith))))
+
 -- an argument below 24
 pub form-tiny : (n : ℕ) → n < 24 → (infoOf n ≡ n) × (sizeOf n ≡ 0)
 unfolding infoOf sizeOf

@@ -38,20 +38,20 @@ ItemWithin s at Item.Malformed = Unit {0}
 ItemWithin s at (Item.Is v next) = (at < next) × (next ≤ length s) × Inside s v
 
 -- a head at a place is as long as the shortest, or longer
-abbrev pub HeadShort : ℕ → Head → Type 0
-HeadShort at Head.Malformed = Unit {0}
-HeadShort at (Head.Is major n next) = at + headLen n ≤ next
+abbrev pub HeadLeast : ℕ → Head → Type 0
+HeadLeast at Head.Malformed = Unit {0}
+HeadLeast at (Head.Is major n next) = at + headLen n ≤ next
 
 -- a string whose head is at a place starts as far after it, or further; another value has no start
-abbrev pub StringShort : ℕ → Value → Type 0
-StringShort at (Unsigned n) = Unit {0}
-StringShort at (Negative n) = Unit {0}
-StringShort at (Bytes start len) = at + headLen len ≤ start
-StringShort at (Text start len) = at + headLen len ≤ start
-StringShort at (Flag b) = Unit {0}
-StringShort at Null = Unit {0}
+abbrev pub StringLeast : ℕ → Value → Type 0
+StringLeast at (Unsigned n) = Unit {0}
+StringLeast at (Negative n) = Unit {0}
+StringLeast at (Bytes start len) = at + headLen len ≤ start
+StringLeast at (Text start len) = at + headLen len ≤ start
+StringLeast at (Flag b) = Unit {0}
+StringLeast at Null = Unit {0}
 
 -- so does the string of an item at a place
-abbrev pub ItemShort : ℕ → Item → Type 0
-ItemShort at Item.Malformed = Unit {0}
-ItemShort at (Item.Is v next) = StringShort at v
+abbrev pub ItemLeast : ℕ → Item → Type 0
+ItemLeast at Item.Malformed = Unit {0}
+ItemLeast at (Item.Is v next) = StringLeast at v

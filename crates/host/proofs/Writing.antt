@@ -15,11 +15,11 @@ use Rattle.laws.proofs.Choice.{pick-yes, pick-no, both-yes, both-true}
 use Rattle.laws.proofs.Lists.{pasted-start}
 use Rattle.cbor.specs.Inner.{Put}
 use Rattle.cbor.specs.Write.{headOf, unsigned, bytesOf, textOf, mapOf}
-use Rattle.cbor.proofs.Laws.{head-size, head-length, form-one, form-eight}
+use Rattle.cbor.proofs.Laws.{head-size, head-length, head-long, len-most, form-one}
 use Rattle.map.specs.Keys.{nameD, nameData, nameLen, nameOff, nameSha}
 use Rattle.smp.specs.Packet.{headerBytes}
 use Rattle.smp.proofs.Headers.{header-length}
-use Rattle.smp.proofs.Writing.{pasted-front, head-tiny, head-word}
+use Rattle.smp.proofs.Writing.{pasted-front, head-tiny}
 use Rattle.host.specs.declared.Written.the-variants.{Packet}
 use Rattle.host.specs.Write.{requestHeader, requestPacket, echoMap, laterMap, firstMap, oddLength, misSized, Outcome, packet, refused, outcome}
 use Rattle.host.specs.Write.{unsendable, put}
@@ -126,11 +126,7 @@ sent-whole p out n e =
 
 -- no head is longer than nine bytes
 pub head-most : (m n : ℕ) → length (headOf m n) ≤ 9
-head-most m n =
-    elim (decLt n 4294967296) [
-      | yes a ↦ omega (arith, head-word m n a)
-      | no a ↦ omega (arith, head-size m n, form-eight n (omega arith) .1)
-    ]
+head-most m n = rw head-long (len-most n)
 
 -- an argument from 24 to 255 has a head of two bytes
 head-small : (m n : ℕ) → 23 < n → n < 256 → length (headOf m n) ≡ 2

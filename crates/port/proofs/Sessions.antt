@@ -5,14 +5,15 @@ use mathlib.Core.Bool.{Bool, true, false, not}
 use mathlib.Core.List.{List, [], _∷_}
 use Prim.Native.Nat.{ℕ, _+_, _≤_, _<_}
 use native.Mathlib.Omega.{arith}
-use lib.Dec.{ltb, lit<, lit≤}
+use lib.Dec.{ltb, lit<}
 use lib.ListN.{length}
 use borrow.Author.Tests.{not-false}
 use Rattle.laws.proofs.Choice.{pick-case, both-true}
 use Rattle.refusal.specs.declared.Refusal.{Refusal}
 use Rattle.refusal.specs.Number.{numberOf}
 use Rattle.reason.specs.Rc.{rcOf}
-use Rattle.cbor.specs.Write.{beBytes, headOf}
+use Rattle.cbor.specs.Write.{headOf}
+use Rattle.cbor.proofs.Laws.{head-long, len-most}
 use Rattle.slot.specs.declared.Slot.{Slot}
 use Rattle.slot.specs.declared.Session.{Session}
 use Rattle.slot.specs.Session.{regionOk, sessionOk, State, stateOf, possible}
@@ -85,14 +86,9 @@ SaidSmall (refused n) = Unit {0}
 
 -- a head has nine bytes at most
 head-nine : (m n : ℕ) → length (headOf m n) ≤ 9
-unfolding headOf beBytes
-head-nine m n =
-    pick-case (λ (l : List ℕ). length l ≤ 9) (ltb n 24) _ _ (λ e. lit≤ tt)
-    (λ e. pick-case (λ (l : List ℕ). length l ≤ 9) (ltb n 256) _ _ (λ f. lit≤ tt)
-    (λ f. pick-case (λ (l : List ℕ). length l ≤ 9) (ltb n 65536) _ _ (λ g. lit≤ tt)
-    (λ g. pick-case (λ (l : List ℕ). length l ≤ 9) (ltb n 4294967296) _ _ (λ h. lit≤ tt) (λ h. lit≤ tt))))
+head-nine m n = subst (λ (k : ℕ). k ≤ 9) (sym (head-long m n)) (len-most n)
 
--- so has a reply that can be said
+-- a reply that can be said is small
 bytes-small : (h : Header) (p : List ℕ) (r : Reply) (room : ℕ) → Sayable p r → length (replyBytes h p r room) < 4294967296
 unfolding replyBytes replyMap
 bytes-small h p r room s =

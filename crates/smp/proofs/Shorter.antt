@@ -23,9 +23,10 @@ use Rattle.cbor.specs.declared.Head.{Head}
 use Rattle.cbor.specs.declared.Item.{Item}
 use Rattle.cbor.specs.Read.{headAt, itemAt}
 use Rattle.cbor.specs.Write.{headLen}
-use Rattle.cbor.specs.Inner.{HeadWithin, ItemWithin, StringShort, ItemShort}
+use Rattle.cbor.specs.Inner.{HeadWithin, ItemWithin}
+use Rattle.cbor.specs.Inner.{StringLeast, ItemLeast}
 use Rattle.cbor.proofs.Laws.{head-long, head-within, item-within}
-use Rattle.cbor.proofs.Short.{item-short}
+use Rattle.cbor.proofs.Least.{item-least}
 use Rattle.map.specs.declared.Kind.{Kind}
 use Rattle.map.specs.declared.Key.{Key}
 use Rattle.map.specs.Keys.{nameD, keyOf, typeOf, typeFor}
@@ -61,7 +62,7 @@ unfolding stored
 stored-size k v f = simp length-set
 
 -- a text is stored
-stored-late : (f : List ℕ) (v : Value) (at : ℕ) → typeOf v ≡ 3 → StringShort at v → 11 ≤ at → Late f → Late (stored Key.Text v f)
+stored-late : (f : List ℕ) (v : Value) (at : ℕ) → typeOf v ≡ 3 → StringLeast at v → 11 ≤ at → Late f → Late (stored Key.Text v f)
 unfolding typeOf indexOf firstOf secondOf
 stored-late f (Unsigned n) at e h k o = absurd (omega arith)
 stored-late f (Negative n) at e h k o = absurd (omega arith)
@@ -73,7 +74,7 @@ stored-late f (Flag x) at e h k o = absurd (omega arith)
 stored-late f Null at e h k o = absurd (omega arith)
 
 -- a pair whose key is the text's
-text-late : (f : List ℕ) (at : ℕ) (i : Item) (s : List ℕ) → 11 ≤ at → ItemWithin s at i → ItemShort at i → Late f → FoundLate (valued Key.Text f i)
+text-late : (f : List ℕ) (at : ℕ) (i : Item) (s : List ℕ) → 11 ≤ at → ItemWithin s at i → ItemLeast at i → Late f → FoundLate (valued Key.Text f i)
 unfolding valued entered FoundLate typeFor pick
 text-late f at Item.Malformed s k w h o = tt
 text-late f at (Item.Is v next) s k w h o =
@@ -96,7 +97,7 @@ keyed-late s f at (Head.Is major n next) b k w o =
     (λ h. pick-case FoundLate (ltb (length s - next) n) _ _ (λ i. tt)
     (λ i. pick-case (λ (key : Key). FoundLate (valued key f (itemAt s (next + n)))) (same (take n (drop next s)) nameD) Key.Text Key.Other
     (λ e. text-late f (next + n) (itemAt s (next + n)) s (omega (arith, w .0, named (same-true _ _ e))) (item-within s (next + n))
-    (item-short s (next + n) b) o)
+    (item-least s (next + n) b) o)
     (λ e. other-late f (next + n) (itemAt s (next + n)) s (omega (arith, w .0)) (item-within s (next + n)) o)))
   where
     named : take n (drop next s) ≡ nameD → 1 ≤ n

@@ -5,7 +5,7 @@ use mathlib.Core.Bool.{true, false, not}
 use mathlib.Core.List.{List, [], _∷_, _++_, append-assoc}
 use Prim.Native.Nat.{ℕ, suc, _+_, _-_, _≤_, _<_}
 use native.Mathlib.Nat.{zero-add}
-use native.Mathlib.Decide.{decLe, decLt}
+use native.Mathlib.Decide.{decLe}
 use native.Mathlib.Omega.{arith}
 use lib.Dec.{ltb, leb, lit<}
 use borrow.Author.Tests.{le-ltb, lt-ltb, le-leb, lt-leb}
@@ -16,7 +16,7 @@ use Rattle.laws.proofs.Choice.{pick-yes, pick-no}
 use Rattle.laws.proofs.Lists.{pasted-is, pasted-start, pasted-twice}
 use Rattle.cbor.specs.Inner.{Put}
 use Rattle.cbor.specs.Write.{headOf, unsigned, textOf, mapOf}
-use Rattle.cbor.proofs.Laws.{head-size, head-length, form-tiny, form-one, form-two, form-four}
+use Rattle.cbor.proofs.Laws.{head-size, head-length, head-long, len-one, len-four, form-tiny}
 use Rattle.reason.specs.declared.Reason.{Reason}
 use Rattle.map.specs.Keys.{nameR, nameRc, nameOff}
 use Rattle.smp.specs.declared.Header.{Header}
@@ -135,22 +135,11 @@ head-tiny m n h = head-size m n ∙ ap suc (form-tiny n h .1)
 
 -- that of a byte is at most two
 pub head-byte : (m n : ℕ) → n < 256 → length (headOf m n) ≤ 2
-head-byte m n h =
-    elim (decLt n 24) [
-      | yes a ↦ omega (arith, head-tiny m n a)
-      | no a ↦ omega (arith, head-size m n, form-one n (omega arith) h .1)
-    ]
+head-byte m n h = rw head-long (len-one n h)
 
 -- that of a number below 2^32 is at most five
 pub head-word : (m n : ℕ) → n < 4294967296 → length (headOf m n) ≤ 5
-head-word m n h =
-    elim (decLt n 256) [
-      | yes a ↦ omega (arith, head-byte m n a)
-      | no a ↦ elim (decLt n 65536) [
-        | yes b ↦ omega (arith, head-size m n, form-two n (omega arith) b .1)
-        | no b ↦ omega (arith, head-size m n, form-four n (omega arith) h .1)
-      ]
-    ]
+head-word m n h = rw head-long (len-four n h)
 
 -- the map of a place in the parts that its writer writes
 pub placed-parts : (s : List ℕ) (n : ℕ) → replyMap s (Reply.Placed n) ≡ (mapOf 2 ++ (textOf nameRc ++ unsigned 0)) ++ (textOf nameOff ++ unsigned n)

@@ -18,9 +18,9 @@ use Rattle.cbor.specs.declared.Head.{Head}
 use Rattle.cbor.specs.declared.Item.{Item}
 use Rattle.cbor.specs.Read.{beAfter, widthOf, headAfter, headAt, stringFrom, valueAfter, itemAt}
 use Rattle.cbor.specs.Write.{headLen}
-use Rattle.cbor.specs.Inner.{HeadShort, StringShort, ItemShort}
+use Rattle.cbor.specs.Inner.{HeadLeast, StringLeast, ItemLeast}
 use Rattle.cbor.proofs.Numbers.{byte-more}
-use Rattle.cbor.proofs.Laws.{width-is}
+use Rattle.cbor.proofs.Laws.{width-is, len-tiny, len-one, len-two, len-four, len-most}
 
 -- a number that is read from bytes is below 256 to the power of how many there are
 read-small : (s : List ℕ) (n k : ℕ) → Bytes s → n < 256 ^ k → beAfter n s < 256 ^ (k + length s)
@@ -35,45 +35,6 @@ part-small : (s : List ℕ) (at w : ℕ) → Bytes s → w ≤ length s - at →
 part-small s at w b h =
     let e : 0 + length (take w (drop at s)) ≡ w = simp (length-take, length-drop) (omega arith) in
     rw e at (read-small (take w (drop at s)) 0 0 (bytes-take w (drop at s) (bytes-drop at s b)) (lit< tt))
-
--- the head of an argument below 24 is one byte
-len-tiny : (n : ℕ) → n < 24 → headLen n ≤ 1
-unfolding headLen
-len-tiny n h =
-    pick-case (λ (k : ℕ). k ≤ 1) (ltb n 24) _ _ (λ e. omega arith) (λ e. absurd (omega (arith, ltb-false n 24 e)))
-
--- that of an argument in one byte at most two
-len-one : (n : ℕ) → n < 256 → headLen n ≤ 2
-unfolding headLen
-len-one n h =
-    pick-case (λ (k : ℕ). k ≤ 2) (ltb n 24) _ _ (λ e. omega arith)
-    (λ e. pick-case (λ (k : ℕ). k ≤ 2) (ltb n 256) _ _ (λ f. omega arith) (λ f. absurd (omega (arith, ltb-false n 256 f))))
-
--- in two bytes at most three
-len-two : (n : ℕ) → n < 65536 → headLen n ≤ 3
-unfolding headLen
-len-two n h =
-    pick-case (λ (k : ℕ). k ≤ 3) (ltb n 24) _ _ (λ e. omega arith)
-    (λ e. pick-case (λ (k : ℕ). k ≤ 3) (ltb n 256) _ _ (λ f. omega arith)
-    (λ f. pick-case (λ (k : ℕ). k ≤ 3) (ltb n 65536) _ _ (λ g. omega arith) (λ g. absurd (omega (arith, ltb-false n 65536 g)))))
-
--- in four bytes at most five
-len-four : (n : ℕ) → n < 4294967296 → headLen n ≤ 5
-unfolding headLen
-len-four n h =
-    pick-case (λ (k : ℕ). k ≤ 5) (ltb n 24) _ _ (λ e. omega arith)
-    (λ e. pick-case (λ (k : ℕ). k ≤ 5) (ltb n 256) _ _ (λ f. omega arith)
-    (λ f. pick-case (λ (k : ℕ). k ≤ 5) (ltb n 65536) _ _ (λ g. omega arith)
-    (λ g. pick-case (λ (k : ℕ). k ≤ 5) (ltb n 4294967296) _ _ (λ h. omega arith) (λ i. absurd (omega (arith, ltb-false n 4294967296 i))))))
-
--- and never more than nine
-len-most : (n : ℕ) → headLen n ≤ 9
-unfolding headLen
-len-most n =
-    pick-case (λ (k : ℕ). k ≤ 9) (ltb n 24) _ _ (λ e. omega arith)
-    (λ e. pick-case (λ (k : ℕ). k ≤ 9) (ltb n 256) _ _ (λ f. omega arith)
-    (λ f. pick-case (λ (k : ℕ). k ≤ 9) (ltb n 65536) _ _ (λ g. omega arith)
-    (λ g. pick-case (λ (k : ℕ). k ≤ 9) (ltb n 4294967296) _ _ (λ h. omega arith) (λ i. omega arith))))
 
 -- an argument that was read from w bytes has a head of at most one more
 len-wide : (info n : ℕ) → 24 ≤ info → info ≤ 27 → n < 256 ^ widthOf info → headLen n ≤ 1 + widthOf info
@@ -90,10 +51,10 @@ len-wide info n a b h =
     ]
 
 -- a head that was read is no shorter than the shortest
-pub head-short : (s : List ℕ) (at : ℕ) → Bytes s → HeadShort at (headAt s at)
+pub head-least : (s : List ℕ) (at : ℕ) → Bytes s → HeadLeast at (headAt s at)
 unfolding headAt headAfter
-head-short s at b =
-    let P : Head → Type 0 = HeadShort at in
+head-least s at b =
+    let P : Head → Type 0 = HeadLeast at in
     let info : ℕ = getD s at 0 % 32 in
     pick-case P (ltb at (length s)) _ _
     (λ h. pick-case P (ltb info 24) _ _
@@ -110,27 +71,27 @@ head-short s at b =
     (λ h. tt)
 
 -- a string after such a head
-string-short : (s : List ℕ) (from n at : ℕ) (v : Value) → StringShort from v → ItemShort from (stringFrom s v n at)
+string-least : (s : List ℕ) (from n at : ℕ) (v : Value) → StringLeast from v → ItemLeast from (stringFrom s v n at)
 unfolding stringFrom
-string-short s from n at v h = pick-case (ItemShort from) (ltb (length s - at) n) _ _ (λ i. tt) (λ i. h)
+string-least s from n at v h = pick-case (ItemLeast from) (ltb (length s - at) n) _ _ (λ i. tt) (λ i. h)
 
 -- a value after such a head
-value-short : (s : List ℕ) (from : ℕ) (h : Head) → HeadShort from h → ItemShort from (valueAfter s h)
+value-least : (s : List ℕ) (from : ℕ) (h : Head) → HeadLeast from h → ItemLeast from (valueAfter s h)
 unfolding valueAfter
-value-short s from Head.Malformed w = tt
-value-short s from (Head.Is major n at) w =
-    let P : Item → Type 0 = ItemShort from in
+value-least s from Head.Malformed w = tt
+value-least s from (Head.Is major n at) w =
+    let P : Item → Type 0 = ItemLeast from in
     pick-case P (eqb major 0) _ _ (λ i. tt)
     (λ i. pick-case P (eqb major 1) _ _ (λ j. tt)
-    (λ j. pick-case P (eqb major 2) _ _ (λ k. string-short s from n at (Value.Bytes at n) w)
-    (λ k. pick-case P (eqb major 3) _ _ (λ l. string-short s from n at (Value.Text at n) w) (λ l. tt))))
+    (λ j. pick-case P (eqb major 2) _ _ (λ k. string-least s from n at (Value.Bytes at n) w)
+    (λ k. pick-case P (eqb major 3) _ _ (λ l. string-least s from n at (Value.Text at n) w) (λ l. tt))))
 
 -- a string that was read stands behind a head no shorter than the shortest
-pub item-short : (s : List ℕ) (at : ℕ) → Bytes s → ItemShort at (itemAt s at)
+pub item-least : (s : List ℕ) (at : ℕ) → Bytes s → ItemLeast at (itemAt s at)
 unfolding itemAt
-item-short s at b =
-    let P : Item → Type 0 = ItemShort at in
+item-least s at b =
+    let P : Item → Type 0 = ItemLeast at in
     pick-case P (not (ltb at (length s))) _ _ (λ h. tt)
     (λ h. pick-case P (eqb (getD s at 0) 0xF4) _ _ (λ i. tt)
     (λ i. pick-case P (eqb (getD s at 0) 0xF5) _ _ (λ j. tt)
-    (λ j. pick-case P (eqb (getD s at 0) 0xF6) _ _ (λ k. tt) (λ k. value-short s at (headAt s at) (head-short s at b)))))
+    (λ j. pick-case P (eqb (getD s at 0) 0xF6) _ _ (λ k. tt) (λ k. value-least s at (headAt s at) (head-least s at b)))))
