@@ -27,7 +27,7 @@
  *   bg_write_reset       8
  *   bg_write_erase       8
  *   bg_write_upload    200
- *   bg_most_data        64
+ *   bg_most_data         8
  *   bg_read_reply      344
  *   bg_next_sequence     8
  */

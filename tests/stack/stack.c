@@ -7,7 +7,7 @@
 
 #include "belagunthi.h"
 
-enum { STACK = 65536, PAINT = 0xA5, LIMIT = 2048 };
+enum { STACK = 65536, PAINT = 0xA5 };
 
 static unsigned char stack[STACK];
 static ucontext_t here, there;
@@ -93,7 +93,7 @@ static int within(const char *name, void (*what)(void), size_t base) {
     size_t n = used(what);
     n = n > base ? n - base : 0;
     printf("stack: %-18s %5zu bytes\n", name, n);
-    return n <= LIMIT;
+    return n <= BG_STACK;
 }
 
 int main(void) {
@@ -134,6 +134,6 @@ int main(void) {
     fine &= within("bg_write_erase", write_erase, base);
     fine &= within("bg_most_data", most_data, base);
     fine &= within("bg_next_sequence", next_sequence, base);
-    printf("stack: the limit is %d bytes: %s\n", LIMIT, fine ? "kept" : "BROKEN");
+    printf("stack: the limit is %d bytes: %s\n", BG_STACK, fine ? "kept" : "BROKEN");
     return fine ? 0 : 1;
 }
