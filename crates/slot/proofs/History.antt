@@ -215,7 +215,7 @@ step-held slot first acts st erase region h fit =
 step-held slot first acts st end region h fit =
     record { below = h .below; beyond = h .beyond; size = h .size; possible = session-closed slot closed refl; joined = never; blank-after = never }
 
--- "in any history": by its acts, one at a time
+-- the demand, in any history: by its acts, one at a time
 pub demand : Demand
 demand slot first acts st region e history = all history
   where
