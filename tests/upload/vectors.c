@@ -6,6 +6,8 @@
 #include "line.h"
 #include "sha256.h"
 
+const char program[] = "vectors";
+
 /* Compares the SHA-256 of a message with the published one; gives 1 where they differ. */
 static int differs(const char *name, const uint8_t *bytes, size_t len, const char *wanted)
 {
