@@ -28,9 +28,10 @@ end() {
   wait "$1" 2>/dev/null
 }
 
-# Ends the processes and removes the temporary files, on every way out.
+# Ends the processes and removes the temporary files, on every way out of the script itself, not of its subshells.
 clean_up() {
   local child
+  [[ $BASHPID -eq $$ ]] || return 0
   for child in "${children[@]}" $peer; do
     end "$child"
   done
