@@ -581,7 +581,7 @@ static size_t write_chunk(struct host *h, size_t off, bool checking)
     if (refusal != 0) {
         finish_refused("the upload request", refusal);
     }
-    h->data_sent += len;
+    h->data_sent += checking ? 0 : len;
     return len;
 }
 
@@ -975,7 +975,7 @@ static void __attribute__((noreturn)) finish_done(const struct host *h, const ch
     if (h->options.file != NULL) {
         finish(END_DONE,
                "done%s, %zu of %zu bytes acknowledged%s: %lu retries, %llu data bytes sent, resumed at %zu (%lu requests, "
-               "%lu other replies, %lu lines that are no frames)",
+               "%lu other replies, %lu other lines)",
                reset, h->length, h->length,
                h->checked ? ", and the slot is this image's by its tag"
                           : "; without a tag it could not be checked that the slot is this image's",
