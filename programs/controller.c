@@ -290,7 +290,7 @@ static void linger(struct controller *c)
     int unread = 1;
 
     while (unread > 0 && now_ms() < until) {
-        poll(NULL, 0, 5);
+        poll(NULL, 0, 20);
         if (ioctl(c->slave, FIONREAD, &unread) != 0) {
             return;
         }

@@ -240,6 +240,12 @@ static void __attribute__((noreturn)) finish_refused(const char *what, uint32_t 
     finish(END_REFUSED, "%s was refused: %u (%s)", what, refusal, refusal_words(refusal));
 }
 
+/* What was done before the request at hand, for the messages that end the program. */
+static const char *done_before(const struct host *h)
+{
+    return h->asked == &reset_request && h->options.file != NULL ? "; the upload before the reset is done" : "";
+}
+
 /* Shows a row that takes exactly the terminal's width but one column, over the row before. */
 static void show_row(struct host *h, const struct progress *p)
 {
@@ -320,8 +326,8 @@ static bool read_port(struct host *h, uint64_t until)
             return true;
         }
         if (come == 0 || (errno != EAGAIN && errno != EINTR)) {
-            finish(END_PORT, "the port %s was closed: %s", h->options.port,
-                   come == 0 ? "hung up" : strerror(errno));
+            finish(END_PORT, "the port %s was closed: %s%s", h->options.port,
+                   come == 0 ? "hung up" : strerror(errno), done_before(h));
         }
     }
 }
@@ -334,12 +340,13 @@ static void draw_sequence(struct host *h)
     }
 }
 
-/* Notes that bytes go to the line, which is free again when it has sent them. */
-static void note_sent(struct host *h, size_t bytes)
+/* Notes that bytes went to the line since a moment: when it has sent them it is free again. */
+static void note_sent(struct host *h, uint64_t since, size_t bytes)
 {
     uint64_t now = now_ms();
 
-    h->line_free = (h->line_free > now ? h->line_free : now) + line_ms(h->baud, bytes);
+    h->line_free = (h->line_free > since ? h->line_free : since) + line_ms(h->baud, bytes);
+    h->line_free = h->line_free > now ? h->line_free : now;
 }
 
 /* Sends the request's frames and gives their bytes; 0 where the port took no byte for too long. */
@@ -347,6 +354,7 @@ static size_t send_request(struct host *h, bool after_silence)
 {
     static const uint8_t line_end = 0x0A;
     uint64_t limit_ms = h->options.timeout_ms + line_ms(h->baud, KERNEL_ROOM);
+    uint64_t since = now_ms();
     uint32_t sent[2] = {0, 1};
     enum written written = WRITTEN;
     size_t bytes = 0;
@@ -373,7 +381,7 @@ static size_t send_request(struct host *h, bool after_silence)
         tcflush(h->port, TCOFLUSH);
         return 0;
     }
-    note_sent(h, bytes);
+    note_sent(h, since, bytes);
     return bytes;
 }
 
@@ -531,7 +539,6 @@ static void write_request(struct host *h, const char *text)
 /* Asks for an echo, an erase or a reset, again on silence, until it is answered. */
 static void ask(struct host *h, const struct request *request)
 {
-    const char *before = request == &reset_request && h->options.file != NULL ? "; the upload before it is done" : "";
     unsigned silences = 0;
 
     h->asked = request;
@@ -543,10 +550,10 @@ static void ask(struct host *h, const struct request *request)
             return;
         }
         if (outcome == ANSWERED_RC) {
-            finish_rc(h, before);
+            finish_rc(h, done_before(h));
         }
         if (silences >= h->options.retries) {
-            finish_unanswered(h, silences + 1, before);
+            finish_unanswered(h, silences + 1, done_before(h));
         }
         silences++;
         h->retries++;
