@@ -29,7 +29,7 @@ static void put(int descriptor, const uint8_t *bytes, size_t len)
     }
 }
 
-/* Takes a line that has ended: where it completes a request, does it and sends the reply's frames. Gives 1 for a reset. */
+/* Takes a line that has ended: where it completes a request, does it and sends the reply's frames; 1 for a reset. */
 static int take_line(size_t len)
 {
     uint32_t body = 0, answer[2] = {0, 0}, sent[2] = {0, 1};

@@ -181,6 +181,7 @@ void upload(Host &host, const Bytes &image)
 
 } // namespace
 
+// Does what the command line asks for, and says in one line how it ended.
 int main(int argc, char **argv)
 {
     try {

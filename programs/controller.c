@@ -588,6 +588,7 @@ int main(int argc, char **argv)
     struct controller *c = &controller;
     uint32_t refusal;
 
+    keep_standard();
     read_options(&c->options, argc, argv);
     c->random = c->options.seed;
     refusal = bg_configure(c->options.slot_start, c->options.slot_size, c->options.memory_size, c->session, c->tag);

@@ -30,6 +30,19 @@ enum { BITS_A_BYTE = 11 };
 
 volatile sig_atomic_t stop_signal;
 
+/* Sees to it that standard input, output and error are open, so that no port or file takes their place. */
+void keep_standard(void)
+{
+    int fd;
+
+    do {
+        fd = open("/dev/null", O_RDWR);
+    } while (fd >= 0 && fd <= STDERR_FILENO);
+    if (fd >= 0) {
+        close(fd);
+    }
+}
+
 /* Notes which signal asked for the end. */
 static void note_stop(int number)
 {

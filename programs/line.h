@@ -37,6 +37,9 @@ extern const char program[];
 /* The signal that asked for the end, or 0. */
 extern volatile sig_atomic_t stop_signal;
 
+/* Sees to it that standard input, output and error are open, so that no port or file takes their place. */
+void keep_standard(void);
+
 /* Lets the signals that ask for the end set stop_signal, unless they are ignored, and ignores broken pipes. */
 void catch_stops(void);
 

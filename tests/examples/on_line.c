@@ -1,4 +1,4 @@
-/* Runs a program with a pseudo-terminal's end as its input and output, as a board on its serial line, and ends after it.
+/* Runs a program with a pseudo-terminal's end as its input and output, as a board on its line, and ends after it.
  * on_line PORT_FILE PROGRAM [WORD...]: writes the path of the line's other end to PORT_FILE. */
 #include <fcntl.h>
 #include <poll.h>

@@ -1,5 +1,5 @@
-/* What needs no archive: the published vectors of SHA-256 (FIPS 180-4's examples), the line collector on lines about its
- * limit, rows of progress for every width, escaped texts, numbers and speeds. */
+/* What needs no archive: the published vectors of SHA-256 (FIPS 180-4's examples), the line collector on lines about
+ * its limit, rows of progress for every width, escaped texts, numbers and speeds. */
 #include <stdio.h>
 #include <stdlib.h>
 #include <string.h>
