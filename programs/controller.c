@@ -8,11 +8,11 @@
 #include <fcntl.h>
 #include <getopt.h>
 #include <poll.h>
-#include <signal.h>
 #include <stdarg.h>
 #include <stdio.h>
 #include <stdlib.h>
 #include <string.h>
+#include <sys/file.h>
 #include <sys/ioctl.h>
 #include <sys/stat.h>
 #include <unistd.h>
@@ -20,12 +20,11 @@
 #include "belagunthi.h"
 #include "line.h"
 
-/* The exit codes. */
-enum { END_WELL = 0, END_USAGE = 2, END_FILE = 3, END_PORT = 4, END_REFUSED = 7 };
+const char program[] = "controller";
 
-/* How long a byte that goes may wait for room on the line, a last reply to be fetched, and one wait for bytes
- * lasts. */
-enum { SEND_LIMIT_MS = 500, LINGER_MS = 500, WAIT_MS = 1000 };
+/* How long a byte that goes may wait for room on the line, and a last reply to be fetched; the packets that can be
+ * taken; the bytes that are taken at once, and on a line that has a speed. */
+enum { SEND_LIMIT_MS = 500, LINGER_MS = 500, PACKET_LEAST = 8, PACKET_MOST = 65533, LUMP = 512, SLOW_LUMP = 64 };
 
 /* What the command line says. */
 struct options {
@@ -34,6 +33,7 @@ struct options {
     uint64_t slot_size;
     uint64_t packet_buffer;
     uint64_t idle_ms;
+    uint64_t baud;
     uint64_t seed;
     uint64_t drop;
     uint64_t damage;
@@ -63,6 +63,8 @@ struct controller {
     uint8_t tag[BG_TAG];
     uint64_t random;
     uint64_t deaf_until;
+    uint64_t line_free;
+    bool port_told;
     unsigned long lines;
     unsigned long packets;
     unsigned long refused;
@@ -73,14 +75,14 @@ struct controller {
     bool ended;
 };
 
-/* Set by a signal that asks for the end. */
-static volatile sig_atomic_t stop_asked;
+static struct controller controller;
 
-/* Notes that a signal asked for the end. */
-static void ask_stop(int number)
+/* Removes the file with the port's path, if there is one. */
+static void untell_port(const struct controller *c)
 {
-    (void)number;
-    stop_asked = 1;
+    if (c->port_told) {
+        unlink(c->options.port_file);
+    }
 }
 
 /* Ends the program with one line on standard error. */
@@ -88,8 +90,9 @@ static void __attribute__((format(printf, 2, 3), noreturn)) fail(int code, const
 {
     va_list words;
 
+    untell_port(&controller);
     va_start(words, format);
-    fprintf(stderr, "controller: ");
+    fprintf(stderr, "%s: ", program);
     vfprintf(stderr, format, words);
     fprintf(stderr, "\n");
     va_end(words);
@@ -210,9 +213,22 @@ static void load_memory(struct controller *c)
     memcpy(c->saved, c->memory, size);
 }
 
+/* Waits as long as bytes take on a line of the speed that was asked for. */
+static void pace(struct controller *c, size_t bytes)
+{
+    uint64_t now = now_ms();
+
+    c->line_free = (c->line_free > now ? c->line_free : now) + line_ms(c->options.baud, bytes);
+    while (now < c->line_free && stop_signal == 0) {
+        poll(NULL, 0, (int)(c->line_free - now));
+        now = now_ms();
+    }
+}
+
 /* Sends bytes; what finds no room in time is lost, as on a line that no one reads. */
 static void send_bytes(struct controller *c, const uint8_t *bytes, size_t len)
 {
+    pace(c, len);
     if (write_all(c->master, bytes, len, SEND_LIMIT_MS) == WRITE_FAILED) {
         fail(END_PORT, "cannot write to the port: %s", strerror(errno));
     }
@@ -274,7 +290,7 @@ static void linger(struct controller *c)
     int unread = 1;
 
     while (unread > 0 && now_ms() < until) {
-        poll(NULL, 0, 5);
+        poll(NULL, 0, 20);
         if (ioctl(c->slave, FIONREAD, &unread) != 0) {
             return;
         }
@@ -326,27 +342,52 @@ static void take_line(struct controller *c, size_t len)
     }
 }
 
+/* Lets other users open the port again where a host that had it alone was killed. */
+static void free_port(const struct controller *c)
+{
+    if (flock(c->slave, LOCK_EX | LOCK_NB) == 0) {
+        ioctl(c->slave, TIOCNXCL);
+        flock(c->slave, LOCK_UN);
+    }
+}
+
+/* Takes bytes that came, but for those that an outage swallows. */
+static void take_bytes(struct controller *c, const uint8_t *bytes, size_t len)
+{
+    for (size_t i = 0; i < len && !c->ended; i++) {
+        if (c->deaf_until > 0 && now_ms() < c->deaf_until) {
+            continue;
+        }
+        c->deaf_until = 0;
+        size_t line = collect(&c->collector, bytes[i]);
+        if (line > 0) {
+            take_line(c, line);
+        }
+    }
+}
+
 /* Serves until the idle time is over, a signal asks for the end, or a reset does under --once. */
 static void serve(struct controller *c)
 {
     uint64_t last = now_ms();
 
-    while (!c->ended && !stop_asked) {
-        uint8_t bytes[512];
+    while (!c->ended && stop_signal == 0) {
+        uint8_t bytes[LUMP];
         struct pollfd wait = {.fd = c->master, .events = POLLIN};
         uint64_t idle = now_ms() - last;
         if (c->options.idle_ms > 0 && idle >= c->options.idle_ms) {
             return;
         }
-        uint64_t left = c->options.idle_ms > 0 ? c->options.idle_ms - idle : WAIT_MS;
-        int ready = poll(&wait, 1, left < WAIT_MS ? (int)left : WAIT_MS);
+        uint64_t left = c->options.idle_ms > 0 ? c->options.idle_ms - idle : SLICE_MS;
+        int ready = poll(&wait, 1, left < SLICE_MS ? (int)left : SLICE_MS);
         if (ready < 0 && errno != EINTR) {
             fail(END_PORT, "cannot wait for the port: %s", strerror(errno));
         }
         if (ready <= 0) {
+            free_port(c);
             continue;
         }
-        ssize_t come = read(c->master, bytes, sizeof bytes);
+        ssize_t come = read(c->master, bytes, c->options.baud > 0 ? SLOW_LUMP : LUMP);
         if (come < 0 && (errno == EAGAIN || errno == EINTR)) {
             continue;
         }
@@ -354,91 +395,68 @@ static void serve(struct controller *c)
             fail(END_PORT, "cannot read from the port: %s", come == 0 ? "it was closed" : strerror(errno));
         }
         last = now_ms();
-        for (ssize_t i = 0; i < come && !c->ended; i++) {
-            if (c->deaf_until > 0 && now_ms() < c->deaf_until) {
-                continue;
-            }
-            c->deaf_until = 0;
-            size_t len = collect(&c->collector, bytes[i]);
-            if (len > 0) {
-                take_line(c, len);
-            }
-        }
+        pace(c, (size_t)come);
+        take_bytes(c, bytes, (size_t)come);
     }
 }
 
-/* Opens the pseudo-terminal, raw, and keeps its far end open too, so that hosts may come and go. */
+/* Opens the pseudo-terminal and tells its path. */
 static void open_port(struct controller *c)
 {
-    const char *path;
+    const char *path = open_pty(&c->master, &c->slave, c->options.baud);
 
-    c->master = posix_openpt(O_RDWR | O_NOCTTY | O_CLOEXEC);
-    if (c->master < 0 || grantpt(c->master) != 0 || unlockpt(c->master) != 0) {
+    if (path == NULL) {
         fail(END_PORT, "cannot open a pseudo-terminal: %s", strerror(errno));
-    }
-    path = ptsname(c->master);
-    c->slave = path == NULL ? -1 : open(path, O_RDWR | O_NOCTTY | O_CLOEXEC);
-    if (c->slave < 0 || make_raw(c->slave) != 0 || fcntl(c->master, F_SETFL, O_NONBLOCK) != 0) {
-        fail(END_PORT, "cannot set up the pseudo-terminal: %s", strerror(errno));
     }
     if (c->options.port_file == NULL) {
         printf("%s\n", path);
         fflush(stdout);
         return;
     }
-    char *draft;
-    if (asprintf(&draft, "%s.draft", c->options.port_file) < 0) {
-        fail(END_FILE, "no memory");
-    }
-    FILE *file = fopen(draft, "w");
-    if (file == NULL || fprintf(file, "%s\n", path) < 0 || fclose(file) != 0 ||
-        rename(draft, c->options.port_file) != 0) {
+    if (!write_port_file(c->options.port_file, path)) {
         fail(END_FILE, "cannot write the port's path to %s: %s", c->options.port_file, strerror(errno));
     }
-    free(draft);
+    c->port_told = true;
 }
 
 /* Prints the help. */
 static void help(void)
 {
-    printf(
-        "Usage: controller [OPTION...]\n"
-        "A rack controller on a pseudo-terminal, whose path it prints on one line. It takes image uploads into a "
-        "slot of its memory.\n"
-        "\n"
-        "  --port-file F       write the path to F instead of standard output\n"
-        "  --memory-size N     bytes of memory (default 262144)\n"
-        "  --slot-start N      where the slot starts in it (default 65536)\n"
-        "  --slot-size N       bytes of the slot, at most 1048576 (default 131072)\n"
-        "  --memory FILE       load the memory from FILE if it exists, and write it back after each change and at "
-        "the end;\n"
-        "                      else the memory is RAM, at first all 255\n"
-        "  --packet-buffer N   longest packet taken, 8 to 65533 bytes (default 1024)\n"
-        "  --idle MS           end after so long without a byte (default 10000; 0: never)\n"
-        "  --once              end after a reset was asked\n"
-        "  --quiet             no log of refusals on standard error\n"
-        "  --help              this text\n"
-        "\n"
-        "Injected faults:\n"
-        "  --seed N            begins their fixed row of chances (default 1)\n"
-        "  --drop PERMILLE     a line that came is lost\n"
-        "  --damage PERMILLE   a byte of a line that came or goes is changed\n"
-        "  --chatter PERMILLE  a console line is printed before a frame that goes\n"
-        "  --outage EVERY,MS   after every so many packets deaf and dumb for MS milliseconds; the packet's reply "
-        "is lost\n"
-        "\n"
-        "Exit code: 0 ended as asked; 2 bad usage; 3 file trouble; 4 port trouble; 7 the slot is impossible.\n");
-}
-
-/* Reads a number from 0 to most that an option was given, or ends for bad usage. */
-static uint64_t number_of(const char *option, const char *text, uint64_t most)
-{
-    uint64_t number;
-
-    if (!read_number(text, most, &number)) {
-        fail(END_USAGE, "--%s wants a number from 0 to %llu, not '%s'", option, (unsigned long long)most, text);
-    }
-    return number;
+    printf("Usage: controller [OPTION...]\n"
+           "A rack controller on a pseudo-terminal, whose path it prints on one line. It\n"
+           "takes image uploads into a slot of its memory.\n"
+           "\n"
+           "Options:\n"
+           "  --port-file F       write the path to F instead of standard output; F is\n"
+           "                      removed at the end, and one of an earlier run first\n"
+           "  --memory-size N     bytes of memory (default 262144)\n"
+           "  --slot-start N      where the slot starts in it (default 65536)\n"
+           "  --slot-size N       bytes of the slot, at most 1048576 (default 131072)\n"
+           "  --memory FILE       load the memory from FILE if it exists, and write it back\n"
+           "                      after each change; else it is RAM, at first all 255\n"
+           "  --packet-buffer N   longest packet taken, 8 to 65533 bytes (default 1024)\n"
+           "  --baud N            as slow as a line of so many bits a second (default: as\n"
+           "                      fast as the machine is)\n"
+           "  --idle MS           end after so long without a byte (default 10000; 0: never)\n"
+           "  --once              end after a reset was asked\n"
+           "  --quiet             no log of refusals on standard error\n"
+           "  -h, --help          this text\n"
+           "  --version           the version\n"
+           "\n"
+           "Injected faults:\n"
+           "  --seed N            begins their fixed row of chances (default 1)\n"
+           "  --drop PERMILLE     a line that came is lost\n"
+           "  --damage PERMILLE   a byte of a line that came or goes is changed\n"
+           "  --chatter PERMILLE  a console line is printed before a frame that goes\n"
+           "  --outage EVERY,MS   after every so many packets deaf and dumb for MS\n"
+           "                      milliseconds; the packet's reply is lost\n"
+           "\n"
+           "Exit codes:\n"
+           "  0  ended as asked, also by a signal\n"
+           "  2  bad usage\n"
+           "  3  file trouble\n"
+           "  4  port trouble\n"
+           "  7  the slot is impossible\n");
 }
 
 /* Reads the two numbers of an outage, or ends for bad usage. */
@@ -448,12 +466,12 @@ static void read_outage(struct options *o, const char *text)
     char every[24];
 
     if (comma == NULL || (size_t)(comma - text) >= sizeof every) {
-        fail(END_USAGE, "--outage wants EVERY,MS, not '%s'", text);
+        end_usage("--outage wants EVERY,MS, not '%s'", text);
     }
     memcpy(every, text, (size_t)(comma - text));
     every[comma - text] = '\0';
-    o->outage_every = number_of("outage", every, 1000000000);
-    o->outage_ms = number_of("outage", comma + 1, 600000);
+    o->outage_every = number_of("outage", every, 0, 1000000000);
+    o->outage_ms = number_of("outage", comma + 1, 0, 600000);
 }
 
 /* Reads the command line. */
@@ -465,6 +483,7 @@ static void read_options(struct options *o, int argc, char **argv)
         {"slot-size", required_argument, NULL, 'S'},
         {"memory", required_argument, NULL, 'f'},
         {"packet-buffer", required_argument, NULL, 'p'},
+        {"baud", required_argument, NULL, 'b'},
         {"idle", required_argument, NULL, 'i'},
         {"seed", required_argument, NULL, 'r'},
         {"drop", required_argument, NULL, 'd'},
@@ -475,6 +494,7 @@ static void read_options(struct options *o, int argc, char **argv)
         {"once", no_argument, NULL, 'o'},
         {"quiet", no_argument, NULL, 'q'},
         {"help", no_argument, NULL, 'h'},
+        {"version", no_argument, NULL, 'v'},
         {NULL, 0, NULL, 0},
     };
     int which = 0;
@@ -487,38 +507,41 @@ static void read_options(struct options *o, int argc, char **argv)
                           .idle_ms = 10000,
                           .seed = 1};
     opterr = 0;
-    while ((found = getopt_long(argc, argv, "", known, &which)) != -1) {
+    while ((found = getopt_long(argc, argv, "h", known, &which)) != -1) {
         const char *name = known[which].name;
         switch (found) {
         case 'm':
-            o->memory_size = number_of(name, optarg, 1u << 30);
+            o->memory_size = number_of(name, optarg, 0, 1u << 30);
             break;
         case 's':
-            o->slot_start = number_of(name, optarg, 1u << 30);
+            o->slot_start = number_of(name, optarg, 0, 1u << 30);
             break;
         case 'S':
-            o->slot_size = number_of(name, optarg, 1u << 30);
+            o->slot_size = number_of(name, optarg, 0, 1u << 30);
             break;
         case 'f':
             o->memory_file = optarg;
             break;
         case 'p':
-            o->packet_buffer = number_of(name, optarg, 65533);
+            o->packet_buffer = number_of(name, optarg, PACKET_LEAST, PACKET_MOST);
+            break;
+        case 'b':
+            o->baud = speed_given(name, optarg);
             break;
         case 'i':
-            o->idle_ms = number_of(name, optarg, 86400000);
+            o->idle_ms = number_of(name, optarg, 0, 86400000);
             break;
         case 'r':
-            o->seed = number_of(name, optarg, UINT64_MAX);
+            o->seed = number_of(name, optarg, 0, UINT64_MAX);
             break;
         case 'd':
-            o->drop = number_of(name, optarg, 1000);
+            o->drop = number_of(name, optarg, 0, 1000);
             break;
         case 'D':
-            o->damage = number_of(name, optarg, 1000);
+            o->damage = number_of(name, optarg, 0, 1000);
             break;
         case 'c':
-            o->chatter = number_of(name, optarg, 1000);
+            o->chatter = number_of(name, optarg, 0, 1000);
             break;
         case 'O':
             read_outage(o, optarg);
@@ -534,56 +557,63 @@ static void read_options(struct options *o, int argc, char **argv)
             break;
         case 'h':
             help();
-            exit(END_WELL);
+            exit(END_DONE);
+        case 'v':
+            end_version();
         default:
-            fail(END_USAGE, "unknown or incomplete option '%s'; see --help", argv[optind - 1]);
+            end_usage("unknown or incomplete option '%s'; see --help", argv[optind - 1]);
         }
     }
     if (optind < argc) {
-        fail(END_USAGE, "unknown word '%s'; see --help", argv[optind]);
+        end_usage("unknown word '%s'; see --help", argv[optind]);
     }
-    if (o->packet_buffer < 8) {
-        fail(END_USAGE, "--packet-buffer must be at least 8");
+}
+
+/* Gives the controller its memory and buffers. */
+static void make_buffers(struct controller *c)
+{
+    c->reply_room = c->options.packet_buffer < BG_REPLY_ROOM ? BG_REPLY_ROOM : c->options.packet_buffer;
+    c->memory = malloc(c->options.memory_size);
+    c->saved = malloc(c->options.memory_size);
+    c->packet = malloc(c->options.packet_buffer);
+    c->reply = malloc(c->reply_room);
+    if (c->memory == NULL || c->saved == NULL || c->packet == NULL || c->reply == NULL) {
+        fail(END_FILE, "no memory");
     }
 }
 
 /* Sets the controller up, serves, and says at the end what happened. */
 int main(int argc, char **argv)
 {
-    static struct controller c;
-    struct sigaction action = {.sa_handler = ask_stop};
+    struct controller *c = &controller;
     uint32_t refusal;
 
-    read_options(&c.options, argc, argv);
-    c.random = c.options.seed;
-    c.reply_room = c.options.packet_buffer < BG_REPLY_ROOM ? BG_REPLY_ROOM : c.options.packet_buffer;
-    refusal = bg_configure(c.options.slot_start, c.options.slot_size, c.options.memory_size, c.session, c.tag);
+    keep_standard();
+    read_options(&c->options, argc, argv);
+    c->random = c->options.seed;
+    refusal = bg_configure(c->options.slot_start, c->options.slot_size, c->options.memory_size, c->session, c->tag);
     if (refusal != 0) {
         fail(END_REFUSED, "refused %u (%s)", refusal, refusal_words(refusal));
     }
-    c.memory = malloc(c.options.memory_size);
-    c.saved = malloc(c.options.memory_size);
-    c.packet = malloc(c.options.packet_buffer);
-    c.reply = malloc(c.reply_room);
-    if (c.memory == NULL || c.saved == NULL || c.packet == NULL || c.reply == NULL) {
-        fail(END_FILE, "no memory");
+    if (c->options.port_file != NULL) {
+        unlink(c->options.port_file);
     }
-    sigaction(SIGTERM, &action, NULL);
-    sigaction(SIGINT, &action, NULL);
-    sigaction(SIGHUP, &action, NULL);
-    load_memory(&c);
-    open_port(&c);
-    serve(&c);
-    save_memory(&c);
-    if (!c.options.quiet) {
+    make_buffers(c);
+    catch_stops();
+    load_memory(c);
+    open_port(c);
+    serve(c);
+    save_memory(c);
+    untell_port(c);
+    if (!c->options.quiet) {
         fprintf(stderr,
                 "controller: ended; %lu lines, %lu packets, %lu refusals; injected: %lu lines lost, %lu damaged, "
                 "%lu console lines, %lu outages\n",
-                c.lines, c.packets, c.refused, c.dropped, c.damaged, c.chatted, c.outages);
+                c->lines, c->packets, c->refused, c->dropped, c->damaged, c->chatted, c->outages);
     }
-    free(c.memory);
-    free(c.saved);
-    free(c.packet);
-    free(c.reply);
-    return END_WELL;
+    free(c->memory);
+    free(c->saved);
+    free(c->packet);
+    free(c->reply);
+    return END_DONE;
 }

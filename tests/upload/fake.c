@@ -3,8 +3,6 @@
  * fake MODE PORT_FILE MEMORY_FILE: writes its port's path to PORT_FILE, and its memory to MEMORY_FILE after each
  * packet.
  */
-#define _GNU_SOURCE
-#include <fcntl.h>
 #include <poll.h>
 #include <stdio.h>
 #include <stdlib.h>
@@ -13,6 +11,8 @@
 
 #include "belagunthi.h"
 #include "line.h"
+
+const char program[] = "fake";
 
 /* The memory, its slot, the packet buffer, how long the fake lives, and the packet at which some modes strike. */
 enum { MEMORY = 262144, START = 65536, SLOT = 131072, PACKET = 1024, LIFE_MS = 20000, STRIKE = 20 };
@@ -27,6 +27,8 @@ struct fake {
     uint32_t session[BG_SESSION];
     uint8_t tag[BG_TAG];
     unsigned packets;
+    uint8_t kept[PACKET];
+    uint32_t kept_len;
 };
 
 static struct fake fake;
@@ -107,41 +109,94 @@ static void begin_other_session(struct fake *f)
     handle(f, request, len);
 }
 
+/* Answers a packet by a map that a mode always gives; false where the mode gives none. */
+static bool answer_fixed(struct fake *f, const char *mode)
+{
+    static const struct {
+        const char *mode;
+        uint8_t map[16];
+        size_t len;
+        unsigned from;
+    } fixed[] = {
+        {"far-offset", {0xA2, 0x62, 'r', 'c', 0, 0x63, 'o', 'f', 'f', 0x1A, 0xFF, 0xFF, 0xFF, 0xFF}, 14, 1},
+        {"same-offset", {0xA2, 0x62, 'r', 'c', 0, 0x63, 'o', 'f', 'f', 1}, 10, 1},
+        {"zero-offset", {0xA2, 0x62, 'r', 'c', 0, 0x63, 'o', 'f', 'f', 0}, 10, 1},
+        {"no-offset", {0xA1, 0x62, 'r', 'c', 0}, 5, 1},
+        {"busy", {0xA1, 0x62, 'r', 'c', 10}, 5, STRIKE},
+        {"other-text", {0xA1, 0x61, 'r', 0x65, 0x1B, '[', '2', 'J', 0x07}, 9, 1},
+    };
+
+    for (size_t i = 0; i < sizeof fixed / sizeof fixed[0]; i++) {
+        if (strcmp(mode, fixed[i].mode) == 0 && f->packets >= fixed[i].from) {
+            send_map(f, fixed[i].map, fixed[i].len);
+            return true;
+        }
+    }
+    return false;
+}
+
+/* Keeps the reply to the first packet, loses the second, and sends the kept reply in its place: late, and in one mode
+ * with the second's sequence number. False where the packet is to be answered as it should be. */
+static bool answer_late(struct fake *f, const char *mode, size_t len)
+{
+    if (f->packets == 1) {
+        f->kept_len = handle(f, f->packet, len);
+        memcpy(f->kept, f->reply, f->kept_len);
+        return true;
+    }
+    if (f->packets == 2) {
+        f->kept[6] = strcmp(mode, "late-same-sequence") == 0 ? f->packet[6] : f->kept[6];
+        send_packet(f, f->kept, f->kept_len);
+        return true;
+    }
+    return false;
+}
+
+/* Sends a right reply, after others or changed as the mode says. */
+static void send_reply(struct fake *f, const char *mode, uint32_t len)
+{
+    uint8_t right = f->reply[6];
+
+    if (strcmp(mode, "other-sequence") == 0) {
+        f->reply[6] = bg_next_sequence(right);
+    }
+    if (strcmp(mode, "stray-replies") == 0) {
+        f->reply[6] = (uint8_t)(right - 1);
+        send_packet(f, f->reply, len);
+        f->reply[6] = right;
+        f->reply[7] = 5;
+        send_packet(f, f->reply, len);
+        f->reply[7] = 1;
+    }
+    if (strcmp(mode, "no-rc") == 0) {
+        /* A2 62 r c 00 63 o f f ...: the map without its first pair. */
+        f->reply[12] = 0xA1;
+        send_map(f, f->reply + 12, len - 12);
+        return;
+    }
+    send_packet(f, f->reply, len);
+}
+
 /* Answers one packet in the fake's mode; false where the fake hangs up. */
 static bool answer(struct fake *f, const char *mode, size_t len)
 {
-    static const uint8_t far_off[] = {0xA2, 0x62, 'r', 'c', 0, 0x63, 'o', 'f', 'f', 0x1A, 0xFF, 0xFF, 0xFF, 0xFF};
-    static const uint8_t same_off[] = {0xA2, 0x62, 'r', 'c', 0, 0x63, 'o', 'f', 'f', 1};
-    static const uint8_t zero_off[] = {0xA2, 0x62, 'r', 'c', 0, 0x63, 'o', 'f', 'f', 0};
-    static const uint8_t no_off[] = {0xA1, 0x62, 'r', 'c', 0};
-    static const uint8_t busy[] = {0xA1, 0x62, 'r', 'c', 10};
     uint32_t reply_len;
 
     f->packets++;
-    if (strcmp(mode, "silent") == 0) {
-        return true;
-    }
+    fprintf(stderr, "fake: packet %u, sequence %u\n", f->packets, f->packet[6]);
     if (strcmp(mode, "hang-up") == 0 && f->packets == STRIKE) {
         return false;
     }
-    if (strcmp(mode, "far-offset") == 0) {
-        send_map(f, far_off, sizeof far_off);
+    if (strcmp(mode, "silent") == 0 || answer_fixed(f, mode) ||
+        (strncmp(mode, "late-", 5) == 0 && answer_late(f, mode, len))) {
         return true;
     }
-    if (strcmp(mode, "same-offset") == 0) {
-        send_map(f, same_off, sizeof same_off);
+    if (strcmp(mode, "loop") == 0) {
+        send_packet(f, f->packet, len);
         return true;
     }
-    if (strcmp(mode, "zero-offset") == 0) {
-        send_map(f, zero_off, sizeof zero_off);
-        return true;
-    }
-    if (strcmp(mode, "no-offset") == 0) {
-        send_map(f, no_off, sizeof no_off);
-        return true;
-    }
-    if (strcmp(mode, "busy") == 0 && f->packets >= STRIKE) {
-        send_map(f, busy, sizeof busy);
+    if (strcmp(mode, "half-lines") == 0) {
+        write_all(f->master, (const uint8_t *)"rack>", 5, 200);
         return true;
     }
     if (strcmp(mode, "loses-session") == 0 && f->packets == STRIKE) {
@@ -155,49 +210,11 @@ static bool answer(struct fake *f, const char *mode, size_t len)
         begin_other_session(f);
     }
     reply_len = handle(f, f->packet, len);
-    if (strcmp(mode, "other-sequence") == 0) {
-        f->reply[6] = bg_next_sequence(f->reply[6]);
+    if (strcmp(mode, "never-proves") == 0 && f->session[1] == f->session[2]) {
+        configure(f);
     }
-    if (strcmp(mode, "stray-replies") == 0) {
-        uint8_t right = f->reply[6];
-        f->reply[6] = (uint8_t)(right - 1);
-        send_packet(f, f->reply, reply_len);
-        f->reply[6] = right;
-        f->reply[7] = 5;
-        send_packet(f, f->reply, reply_len);
-        f->reply[7] = 1;
-    }
-    if (strcmp(mode, "no-rc") == 0) {
-        /* A2 62 r c 00 63 o f f ...: the map without its first pair. */
-        f->reply[12] = 0xA1;
-        send_map(f, f->reply + 12, reply_len - 12);
-        return true;
-    }
-    send_packet(f, f->reply, reply_len);
+    send_reply(f, mode, reply_len);
     return true;
-}
-
-/* Opens the pseudo-terminal and writes its path to a file. */
-static int open_port(struct fake *f, const char *port_file)
-{
-    char draft[4096];
-    int slave;
-
-    f->master = posix_openpt(O_RDWR | O_NOCTTY);
-    if (f->master < 0 || grantpt(f->master) != 0 || unlockpt(f->master) != 0) {
-        fail("no pseudo-terminal");
-    }
-    slave = open(ptsname(f->master), O_RDWR | O_NOCTTY);
-    if (slave < 0 || make_raw(slave) != 0 || fcntl(f->master, F_SETFL, O_NONBLOCK) != 0) {
-        fail("cannot set up the pseudo-terminal");
-    }
-    snprintf(draft, sizeof draft, "%s.draft", port_file);
-    FILE *file = fopen(draft, "w");
-    if (file == NULL || fprintf(file, "%s\n", ptsname(f->master)) < 0 || fclose(file) != 0 ||
-        rename(draft, port_file) != 0) {
-        fail("cannot write the port's path");
-    }
-    return slave;
 }
 
 /* Serves in one mode until the fake's life is over or it hangs up. */
@@ -207,6 +224,8 @@ int main(int argc, char **argv)
     static uint32_t reader[BG_READER];
     uint64_t until = now_ms() + LIFE_MS;
     struct fake *f = &fake;
+    const char *path;
+    int slave;
 
     if (argc != 4) {
         fail("usage: fake MODE PORT_FILE MEMORY_FILE");
@@ -214,7 +233,10 @@ int main(int argc, char **argv)
     f->memory_file = argv[3];
     memset(f->memory, 255, MEMORY);
     configure(f);
-    open_port(f, argv[2]);
+    path = open_pty(&f->master, &slave, 0);
+    if (path == NULL || !write_port_file(argv[2], path)) {
+        fail("cannot open a port");
+    }
     while (now_ms() < until) {
         uint8_t bytes[512];
         struct pollfd wait = {.fd = f->master, .events = POLLIN};

@@ -1,10 +1,14 @@
-/* The published vectors of SHA-256 (FIPS 180-4's examples), and the line collector on lines about its limit. */
+/* What needs no archive: the published vectors of SHA-256 (FIPS 180-4's examples), the line collector on lines about
+ * its limit, rows of progress for every width, escaped texts, numbers and speeds. */
 #include <stdio.h>
 #include <stdlib.h>
 #include <string.h>
 
 #include "line.h"
+#include "progress.h"
 #include "sha256.h"
+
+const char program[] = "vectors";
 
 /* Compares the SHA-256 of a message with the published one; gives 1 where they differ. */
 static int differs(const char *name, const uint8_t *bytes, size_t len, const char *wanted)
@@ -44,6 +48,80 @@ static int collects_badly(size_t len)
     return 1;
 }
 
+/* Writes rows of progress for a width; gives 1 where one has another width or a byte after it changed. */
+static int shows_badly(size_t columns)
+{
+    static const struct progress all[] = {
+        {0, 1, 0, 0, 0},
+        {1, 1, 0, 1, 0},
+        {500, 1000, 0, 2000, 3},
+        {500, 1000, 500, 2000, 3},
+        {1, 1048576, 0, 600000, 4294967295u},
+        {1048576, 1048576, 1048576, UINT64_MAX / 1048576 / 1000, 1},
+    };
+    char row[PROGRESS_ROOM];
+
+    for (size_t i = 0; i < sizeof all / sizeof all[0]; i++) {
+        memset(row, '!', sizeof row);
+        progress_row(row, columns, &all[i]);
+        if (strlen(row) != columns || (columns + 1 < sizeof row && row[columns + 1] != '!')) {
+            printf("a row of %zu columns: '%s'\n", columns, row);
+            return 1;
+        }
+    }
+    return 0;
+}
+
+/* Compares a text with the one that is wanted; gives 1 where they differ. */
+static int text_differs(const char *what, const char *text, const char *wanted)
+{
+    if (strcmp(text, wanted) == 0) {
+        return 0;
+    }
+    printf("%s: '%s', not '%s'\n", what, text, wanted);
+    return 1;
+}
+
+/* Compares words of progress, with speed and time left. */
+static int words_differ(void)
+{
+    char words[PROGRESS_ROOM];
+    int bad = 0;
+
+    progress_words(words, 100, &(struct progress){6000, 20000, 1000, 2000, 3});
+    bad += text_differs("words", words, "30%, 6000 of 20000 bytes, 2.5 kB/s, 0:06 left, 3 retries");
+    progress_words(words, 40, &(struct progress){6000, 20000, 1000, 2000, 3});
+    bad += text_differs("40 columns", words, "30%, 2.5 kB/s, 0:06 left");
+    progress_words(words, 100, &(struct progress){1, 20000, 0, 1000, 0});
+    bad += text_differs("hours", words, "0%, 1 of 20000 bytes, 0.0 kB/s, 5:33:19 left, 0 retries");
+    progress_words(words, 100, &(struct progress){0, 20000, 0, 9000, 4});
+    return bad + text_differs("silence", words, "0%, 0 of 20000 bytes, 4 retries");
+}
+
+/* Compares escaped bytes, numbers, speeds and times of the line. */
+static int small_things_differ(void)
+{
+    static const uint8_t bytes[] = {0, 'a', 0x1B, ' ', '~', 0x7F, 0xFF, '\\'};
+    char text[4 * sizeof bytes + 1];
+    uint64_t number = 7;
+    int bad = 0;
+
+    escape(text, bytes, sizeof bytes);
+    bad += text_differs("escaped", text, "\\x00a\\x1b ~\\x7f\\xff\\\\");
+    escape(text, bytes, 0);
+    bad += text_differs("escaped nothing", text, "");
+    bad += read_number("", 10, &number) || read_number("-1", 10, &number) || read_number("11", 10, &number) ||
+           read_number("1x", 10, &number) || read_number("18446744073709551616", UINT64_MAX, &number) || number != 7;
+    bad += !read_number("18446744073709551615", UINT64_MAX, &number) || number != UINT64_MAX;
+    bad += !read_number("10", 10, &number) || number != 10;
+    bad += !known_speed(9600) || known_speed(0) || known_speed(9601);
+    bad += line_ms(9600, 960) != 1100 || line_ms(0, 960) != 0 || line_ms(115200, 1) != 1;
+    if (bad > 0) {
+        printf("%d of the small things differ\n", bad);
+    }
+    return bad;
+}
+
 /* Runs the vectors. */
 int main(void)
 {
@@ -70,5 +148,10 @@ int main(void)
     for (size_t len = 1; len < 400; len++) {
         bad += collects_badly(len);
     }
+    for (size_t columns = 0; columns < PROGRESS_ROOM; columns++) {
+        bad += shows_badly(columns);
+    }
+    bad += words_differ();
+    bad += small_things_differ();
     return bad == 0 ? 0 : 1;
 }

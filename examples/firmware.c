@@ -1,0 +1,68 @@
+/*
+ * A controller's firmware: takes uploads into a slot of its memory over a serial line. All its buffers are static. On a
+ * board, get and put are the board's own; here the line is descriptors 0 and 1, and at a reset the memory is shown on
+ * descriptor 2.
+ */
+#include <string.h>
+#include <unistd.h>
+
+#include "belagunthi.h"
+
+enum { MEMORY = 65536, SLOT_START = 16384, SLOT = 32768, PACKET = 1024 };
+
+static uint8_t memory[MEMORY], line[BG_LINE + 1], packet[PACKET], reply[PACKET], frame[BG_LINE], tag[BG_TAG];
+static uint32_t reader[BG_READER], session[BG_SESSION];
+
+/* Waits for a byte of the line; 0 where the line has ended. */
+static int get(uint8_t *byte)
+{
+    return read(0, byte, 1) == 1;
+}
+
+/* Sends bytes. */
+static void put(int descriptor, const uint8_t *bytes, size_t len)
+{
+    ssize_t done = 0;
+
+    for (size_t sent = 0; sent < len && done >= 0; sent += done > 0 ? (size_t)done : 0) {
+        done = write(descriptor, bytes + sent, len - sent);
+    }
+}
+
+/* Takes a line that has ended: where it completes a request, does it and sends the reply's frames; 1 for a reset. */
+static int take_line(size_t len)
+{
+    uint32_t body = 0, answer[2] = {0, 0}, sent[2] = {0, 1};
+
+    if (bg_take_line(reader, line, len, packet, PACKET, &body) != 0 || body == 0 ||
+        bg_handle(memory, MEMORY, SLOT_START, SLOT, session, tag, packet, body, reply, PACKET, answer) != 0) {
+        return 0;
+    }
+    for (size_t k = 0; k < sent[1] && bg_send_frame(reply, answer[0], k, frame, sizeof frame, sent) == 0; k++) {
+        put(1, frame, sent[0]);
+    }
+    return answer[1] != 0;
+}
+
+/* Serves until a reset. */
+int main(void)
+{
+    size_t len = 0;
+
+    memset(memory, 255, MEMORY);
+    if (bg_configure(SLOT_START, SLOT, MEMORY, session, tag) != 0) {
+        return 1;
+    }
+    while (get(&line[len])) {
+        if (line[len] != '\n') {
+            len += len < BG_LINE; /* a line that is too long keeps one byte too many, and is refused */
+            continue;
+        }
+        if (take_line(len + 1)) {
+            put(2, memory, MEMORY);
+            return 0;
+        }
+        len = 0;
+    }
+    return 1;
+}
