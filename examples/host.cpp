@@ -28,7 +28,7 @@ namespace {
 using Bytes = std::vector<std::uint8_t>;
 using Clock = std::chrono::steady_clock;
 
-constexpr std::size_t chunk = 256;
+constexpr std::size_t packet_room = 512;
 constexpr unsigned tries = 30;
 constexpr std::chrono::milliseconds patience(200);
 
@@ -147,14 +147,20 @@ private:
     Bytes line_;
     std::uint32_t reader_[BG_READER] = {};
     std::uint32_t reply_[BG_REPLY] = {};
-    std::array<std::uint8_t, 512> packet_;
+    std::array<std::uint8_t, packet_room> packet_;
     std::array<std::uint8_t, 1024> answer_;
 };
+
+// How many bytes of the image the request at an offset carries: as many as its packet takes, or all that are left.
+std::size_t chunk_at(const Bytes &image, std::size_t at)
+{
+    return std::min<std::size_t>(bg_most_data(packet_room, at, image.size(), BG_TAG), image.size() - at);
+}
 
 // Sends the chunk of the image at an offset; gives the offset that the controller answers.
 std::size_t put(Host &host, const Bytes &image, const std::array<std::uint8_t, BG_TAG> &tag, std::size_t at)
 {
-    std::size_t len = std::min(chunk, image.size() - at);
+    std::size_t len = chunk_at(image, at);
     return host.ask(1, 1, [&](std::uint8_t sequence, std::uint8_t *out, std::size_t room, std::uint32_t *packet_len) {
         return bg_write_upload(sequence, image.data() + at, len, at, image.size(), tag.data(), tag.size(), out, room,
                                packet_len);
@@ -167,7 +173,7 @@ void upload(Host &host, const Bytes &image)
     std::array<std::uint8_t, BG_TAG> tag;
     sha256(image.data(), image.size(), tag.data());
     for (std::size_t at = 0; at < image.size();) {
-        std::size_t wanted = at + std::min(chunk, image.size() - at);
+        std::size_t wanted = at + chunk_at(image, at);
         std::size_t answered = put(host, image, tag, at);
         if (answered == 0 || answered > image.size() || (at > 0 && answered != wanted)) {
             throw std::runtime_error("the controller is at another offset: run this again");

@@ -24,7 +24,7 @@ const char program[] = "controller";
 
 /* How long a byte that goes may wait for room on the line, and a last reply to be fetched; the packets that can be
  * taken; the bytes that are taken at once, and on a line that has a speed. */
-enum { SEND_LIMIT_MS = 500, LINGER_MS = 500, PACKET_LEAST = 8, PACKET_MOST = 65533, LUMP = 512, SLOW_LUMP = 64 };
+enum { SEND_LIMIT_MS = 500, LINGER_MS = 500, PACKET_LEAST = 8, LUMP = 512, SLOW_LUMP = 64 };
 
 /* What the command line says. */
 struct options {
@@ -523,7 +523,7 @@ static void read_options(struct options *o, int argc, char **argv)
             o->memory_file = optarg;
             break;
         case 'p':
-            o->packet_buffer = number_of(name, optarg, PACKET_LEAST, PACKET_MOST);
+            o->packet_buffer = number_of(name, optarg, PACKET_LEAST, BG_PACKET);
             break;
         case 'b':
             o->baud = speed_given(name, optarg);

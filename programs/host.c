@@ -297,9 +297,9 @@ static bool take_line(struct host *h, size_t len)
     if (body == 0) {
         return false;
     }
-    same = h->reply[OP] == WRITE_REPLY && h->reply[GROUP] == h->asked->group &&
-           h->reply[COMMAND] == h->asked->command;
-    if (same && h->reply[SEQUENCE] == h->sequence) {
+    same = h->reply[BG_REPLY_OP] == WRITE_REPLY && h->reply[BG_REPLY_GROUP] == h->asked->group &&
+           h->reply[BG_REPLY_COMMAND] == h->asked->command;
+    if (same && h->reply[BG_REPLY_SEQUENCE] == h->sequence) {
         return true;
     }
     h->ignored++;
@@ -343,14 +343,14 @@ enum outcome exchange(struct host *h, unsigned silences)
         return UNANSWERED;
     }
     h->heard = (struct heard){.bytes = 0};
-    return h->reply[RC] == 0 ? ANSWERED : ANSWERED_RC;
+    return h->reply[BG_REPLY_RC] == 0 ? ANSWERED : ANSWERED_RC;
 }
 
 /* Ends the program for an rc other than 0. */
 void finish_rc(const struct host *h, const char *advice)
 {
-    finish(END_RC, "the controller answered the %s with rc %u (%s)%s", h->asked->name, h->reply[RC],
-           rc_name(h->reply[RC]), advice);
+    finish(END_RC, "the controller answered the %s with rc %u (%s)%s", h->asked->name, h->reply[BG_REPLY_RC],
+           rc_name(h->reply[BG_REPLY_RC]), advice);
 }
 
 /* Adds words to a text of so much room; what does not fit is left out. */

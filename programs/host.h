@@ -11,23 +11,6 @@
 /* The exit codes besides those of line.h. */
 enum { END_SILENCE = 5, END_RC = 6, END_ANSWER = 8 };
 
-/* The longest packet. */
-enum { PACKET_MOST = 65533 };
-
-/* The places of a reply's numbers. */
-enum {
-    OP = 0,
-    GROUP = 3,
-    SEQUENCE = 4,
-    COMMAND = 5,
-    RC = 6,
-    HAS_OFF = 7,
-    OFF = 8,
-    HAS_TEXT = 9,
-    TEXT = 10,
-    TEXT_LEN = 11
-};
-
 /* What can be asked of a controller: its group and command, and its name in messages. */
 struct request {
     uint32_t group;
@@ -85,9 +68,9 @@ struct host {
     uint8_t in[4096];
     size_t in_from;
     size_t in_to;
-    uint8_t packet[PACKET_MOST];
+    uint8_t packet[BG_PACKET];
     uint32_t packet_len;
-    uint8_t answer[PACKET_MOST];
+    uint8_t answer[BG_PACKET];
     uint32_t reply[BG_REPLY];
     uint8_t *image;
     size_t length;

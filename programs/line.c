@@ -12,6 +12,8 @@
 #include <time.h>
 #include <unistd.h>
 
+#include "belagunthi.h"
+
 /* The speeds that have a name, and the fastest that every machine and emulator has. */
 static const struct {
     uint64_t baud;
@@ -287,7 +289,7 @@ void end_usage(const char *format, ...)
 /* Ends the program after its version. */
 void end_version(void)
 {
-    printf("%s (Belagunthi) %s\n", program, PROGRAMS_VERSION);
+    printf("%s (Belagunthi) %s\n", program, BG_VERSION_TEXT);
     exit(END_DONE);
 }
 

@@ -9,9 +9,6 @@
 #include <stdint.h>
 #include <termios.h>
 
-/* The version of the programs, and of what ./install installs. */
-#define PROGRAMS_VERSION "0.7"
-
 /* A line is handed on at its 0A, or where it has this many bytes: one more than a frame may have. */
 #define LINE_ROOM 128
 

@@ -37,16 +37,9 @@ struct course {
 };
 
 /* The most data bytes that an upload request at an offset takes in a packet of room bytes; 0 where none. */
-static size_t most_data(struct host *h, size_t room, size_t off)
+static size_t most_data(const struct host *h, size_t room, size_t off)
 {
-    size_t len = h->length - off < room ? h->length - off : room;
-
-    /* The writer itself says what fits. */
-    while (len > 0 && bg_write_upload(h->sequence, h->image + off, len, off, h->length, h->tag, h->tag_len, h->packet,
-                                      room, &h->packet_len) != 0) {
-        len--;
-    }
-    return len;
+    return bg_most_data(room, off, h->length, h->tag_len);
 }
 
 /* Writes the upload request at an offset, with as many bytes as asked for or as the packet takes, one for the check;
@@ -71,7 +64,7 @@ static size_t write_chunk(struct host *h, size_t off, bool checking)
 /* Ends for a chunk that no packet can carry, with the largest that one can. */
 static void check_chunk(struct host *h)
 {
-    size_t most = h->options.chunk > 0 ? most_data(h, PACKET_MOST, 0) : 0;
+    size_t most = h->options.chunk > 0 ? most_data(h, BG_PACKET, 0) : 0;
 
     if (h->options.chunk > most && most < h->length) {
         finish(END_USAGE, "--chunk %llu: a request takes at most %zu data bytes", (unsigned long long)h->options.chunk,
@@ -126,13 +119,13 @@ static void count_return(struct host *h, struct course *c, size_t off, size_t le
         finish(END_ANSWER,
                "the controller acknowledged every byte, but at the check its slot was not this image's: %u of %zu, and "
                "the upload had returned to 0 %u times",
-               h->reply[OFF], h->length, c->returns);
+               h->reply[BG_REPLY_OFF], h->length, c->returns);
     }
     if (c->returns >= h->options.retries) {
         finish(END_ANSWER,
                "the controller's offset makes no sense: %u after %zu bytes at %zu, and the upload had returned to 0 %u "
                "times",
-               h->reply[OFF], len, off, c->returns);
+               h->reply[BG_REPLY_OFF], len, off, c->returns);
     }
     c->returns++;
     h->retries++;
@@ -141,9 +134,9 @@ static void count_return(struct host *h, struct course *c, size_t off, size_t le
 /* Ends where the offset in a reply is missing, or none that an upload of this image can have. */
 static void check_offset(struct host *h, size_t off, size_t len)
 {
-    uint32_t answered = h->reply[OFF];
+    uint32_t answered = h->reply[BG_REPLY_OFF];
 
-    if (h->reply[HAS_OFF] == 0) {
+    if (h->reply[BG_REPLY_HAS_OFF] == 0) {
         finish(END_ANSWER, "the controller answered the upload at %zu without an offset", off);
     }
     if (answered > h->length || (off == 0 && (answered == 0 || (h->tag_len == 0 && answered != len)))) {
@@ -155,7 +148,7 @@ static void check_offset(struct host *h, size_t off, size_t len)
 /* Goes on at the offset that the controller answered; at the image's end the check is next, where there is a tag. */
 static void go_on(struct host *h, struct course *c)
 {
-    size_t answered = h->reply[OFF];
+    size_t answered = h->reply[BG_REPLY_OFF];
 
     h->acknowledged = answered;
     if (c->checking) {
@@ -181,15 +174,17 @@ static void follow(struct host *h, struct course *c, size_t len, enum outcome ou
     size_t off = c->at;
 
     c->silences = 0;
-    if (outcome == ANSWERED_RC && (off == 0 || h->reply[RC] != RC_INVALID || c->returns >= h->options.retries)) {
-        finish_rc(h, off == 0 && h->reply[RC] == RC_INVALID ? ": is the image larger than the controller's slot?" : "");
+    if (outcome == ANSWERED_RC &&
+        (off == 0 || h->reply[BG_REPLY_RC] != RC_INVALID || c->returns >= h->options.retries)) {
+        bool too_large = off == 0 && h->reply[BG_REPLY_RC] == RC_INVALID;
+        finish_rc(h, too_large ? ": is the image larger than the controller's slot?" : "");
     }
     if (outcome == ANSWERED) {
         check_offset(h, off, len);
-        h->resumed_at = !h->upload_answered && h->reply[OFF] != len ? h->reply[OFF] : h->resumed_at;
+        h->resumed_at = !h->upload_answered && h->reply[BG_REPLY_OFF] != len ? h->reply[BG_REPLY_OFF] : h->resumed_at;
         h->upload_answered = true;
     }
-    if (off > 0 && (outcome == ANSWERED_RC || h->reply[OFF] != off + len)) {
+    if (off > 0 && (outcome == ANSWERED_RC || h->reply[BG_REPLY_OFF] != off + len)) {
         count_return(h, c, off, len);
         c->at = 0;
         return;
@@ -344,7 +339,7 @@ static void read_options(struct options *o, int argc, char **argv)
             o->baud = speed_given(name, optarg);
             break;
         case 'c':
-            o->chunk = number_of(name, optarg, 1, PACKET_MOST);
+            o->chunk = number_of(name, optarg, 1, BG_PACKET);
             break;
         case 't':
             o->timeout_ms = number_of(name, optarg, 1, 600000);
@@ -394,15 +389,16 @@ static void read_options(struct options *o, int argc, char **argv)
 /* Asks for the echo and compares the text that comes back; gives it as it can be shown. */
 static const char *ask_echo(struct host *h)
 {
-    static char shown[4 * PACKET_MOST + 1];
+    static char shown[4 * BG_PACKET + 1];
     size_t len = strlen(h->options.echo);
 
     ask(h, &echo_request);
-    escape(shown, h->answer + h->reply[TEXT], h->reply[TEXT_LEN]);
-    if (h->reply[HAS_TEXT] == 0) {
+    escape(shown, h->answer + h->reply[BG_REPLY_TEXT_START], h->reply[BG_REPLY_TEXT_LENGTH]);
+    if (h->reply[BG_REPLY_HAS_TEXT] == 0) {
         finish(END_ANSWER, "the controller answered the echo without a text");
     }
-    if (h->reply[TEXT_LEN] != len || memcmp(h->answer + h->reply[TEXT], h->options.echo, len) != 0) {
+    if (h->reply[BG_REPLY_TEXT_LENGTH] != len ||
+        memcmp(h->answer + h->reply[BG_REPLY_TEXT_START], h->options.echo, len) != 0) {
         finish(END_ANSWER, "the controller echoed another text: '%s'", shown);
     }
     return shown;
