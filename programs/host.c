@@ -27,9 +27,6 @@ enum { SETTLE_MS = 30, TAKE_TRIES = 3, TAKE_MS = 20, ROW_MS = 100, LINE_MS = 500
 /* The columns of a terminal that does not say them. */
 enum { COLUMNS = 80 };
 
-/* The refusals of lines that are no frames. */
-enum { LINE_TOO_LONG = 2, LINE_NO_FRAME = 3 };
-
 /* The op of replies to writes, and the groups and commands that are asked for. */
 enum { WRITE_REPLY = 3, OS = 0, OS_ECHO = 0, OS_RESET = 5, IMAGE = 1, IMAGE_UPLOAD = 1, IMAGE_ERASE = 5 };
 
@@ -269,7 +266,7 @@ static size_t send_request(struct host *h, bool after_silence)
 static void note_no_reply(struct host *h, uint32_t refusal)
 {
     h->bad_lines++;
-    if (refusal == LINE_TOO_LONG || refusal == LINE_NO_FRAME) {
+    if (refusal == BG_LINE_TOO_LONG || refusal == BG_NO_FRAME) {
         h->heard.lines++;
         return;
     }
