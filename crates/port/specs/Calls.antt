@@ -1,10 +1,11 @@
 -- What each call of the C interface returns, and what every lent number and byte holds afterwards.
 -- Assumes nothing.
 use Prim.Native.Nat.{ℕ}
-use mathlib.Core.Bool.{Bool, not}
+use mathlib.Core.Bool.{Bool, true, not}
 use mathlib.Core.List.{List, [], _∷_}
 use lib.Dec.{eqb}
 use Rattle.laws.specs.Choice.{pick, both}
+use Rattle.collector.specs.Collector as collecting
 use Rattle.reader.specs.declared.Reader.{Reader}
 use Rattle.reader.specs.Reader as reading
 use Rattle.sender.specs.Sender as sending
@@ -13,7 +14,47 @@ use Rattle.slot.specs.Session as slots
 use Rattle.controller.specs.Handle as handling
 use Rattle.host.specs.Write as writing
 use Rattle.host.specs.Read as hearing
-use Rattle.port.specs.Records.{readerOf, readerNumbers, sessionOf, sessionNumbers, replyNumbers}
+use Rattle.port.specs.Records.{collectorOf, collectorNumbers, readerOf, readerNumbers, sessionOf, sessionNumbers, replyNumbers}
+
+-- bg_collect: the result, the record's numbers and bytes, the line array and the two numbers
+pub record CollectedC : Type 0 where
+  pub result : ℕ
+  pub record-after : List ℕ
+  pub held : List ℕ
+  pub line : List ℕ
+  pub got : List ℕ
+
+-- a step's result: 0, or the refusal's number
+unfoldable pub stepResult : collecting.Said → ℕ
+stepResult (collecting.lineOf n) = 0
+stepResult collecting.usedUp = 0
+stepResult (collecting.refusing n) = n
+
+-- the length of the line that a step gave, or 0
+unfoldable pub stepLength : collecting.Said → ℕ
+stepLength (collecting.lineOf n) = n
+stepLength collecting.usedUp = 0
+stepLength (collecting.refusing n) = 0
+
+-- a step with this result went on in its lump: it took bytes, or the lump is used up; at 1 and 12 all stays
+abbrev pub wentOn : ℕ → Bool
+wentOn n = pick (eqb n 0) true (eqb n 2)
+
+-- by what the step leaves
+unfoldable pub collectedBy : List ℕ → List ℕ → List ℕ → collecting.Outcome → CollectedC
+collectedBy r held got o =
+    pick (wentOn (stepResult (o .says)))
+    (record {
+      result = stepResult (o .says);
+      record-after = collectorNumbers (o .collector);
+      held = o .collector .held;
+      line = o .buffer;
+      got = stepLength (o .says) ∷ o .place ∷ [];
+    })
+    (record { result = stepResult (o .says); record-after = r; held = held; line = o .buffer; got = got })
+
+unfoldable pub collectedC : List ℕ → List ℕ → List ℕ → ℕ → List ℕ → List ℕ → CollectedC
+collectedC r held lump at line got = collectedBy r held got (collecting.collect (collectorOf r held) lump at line)
 
 -- bg_take_line: the result, the record, the packet buffer and *body
 pub record TookLine : Type 0 where

@@ -2,7 +2,8 @@
 -- Assumes nothing.
 use Prim.Native.Nat.{_≤_, _<_}
 use mathlib.Core.Path.{_≡_}
-use mathlib.Core.Bool.{false}
+use mathlib.Core.Bool.{true, false}
+use Rattle.collector.specs.Collector as collecting
 use Rattle.reader.specs.declared.Reader.{Reader}
 use Rattle.reader.specs.declared.Reader.the-variants.{Idle, Open}
 use Rattle.reader.specs.Reader as reading
@@ -10,7 +11,11 @@ use Rattle.slot.specs.declared.Session.{Session}
 use Rattle.host.specs.declared.Reply.{Reply}
 use Rattle.host.specs.Read.{orZero}
 use Rattle.port.specs.Records.{runStart, runLength}
-use Rattle.port.specs.Calls.{keepsRecord}
+use Rattle.port.specs.Calls.{stepResult, stepLength, wentOn, keepsRecord}
+
+-- where a step of the collector went on, its numbers fit
+abbrev pub StepSmall : collecting.Outcome → Type 0
+StepSmall o = wentOn (stepResult (o .says)) ≡ true → (stepLength (o .says) ≤ 127) × (o .place ≤ 256) × (o .collector .count ≤ 126)
 
 -- a reader's record whose numbers fit
 abbrev pub Storable : Reader → Type 0

@@ -8,6 +8,7 @@ use lib.ListN.{getD}
 use Rattle.laws.specs.declared.Number.{Number}
 use Rattle.laws.specs.declared.Run.{Run}
 use Rattle.laws.specs.Choice.{pick}
+use Rattle.collector.specs.declared.Collector.{Collector}
 use Rattle.reader.specs.declared.Reader.{Reader}
 use Rattle.reader.specs.declared.Reader.the-variants.{Idle, Open}
 use Rattle.slot.specs.declared.Session.{Session}
@@ -18,6 +19,18 @@ use Rattle.host.specs.Read.{orZero}
 -- a number as a flag: 0 is false
 abbrev pub flagOf : ℕ → Bool
 flagOf n = not (eqb n 0)
+
+-- the collector's record by its numbers and its bytes
+abbrev pub collectorFrom : ℕ → ℕ → List ℕ → Collector
+collectorFrom count skipping held = record { held = held; count = count; skipping = flagOf skipping }
+
+-- the collector's record { count, skipping } with its bytes
+abbrev pub collectorOf : List ℕ → List ℕ → Collector
+collectorOf r held = collectorFrom (getD r 0 0) (getD r 1 0) held
+
+-- the numbers of a collector's record
+unfoldable pub collectorNumbers : Collector → List ℕ
+collectorNumbers c = c .count ∷ flagNumber (c .skipping) ∷ []
 
 -- the reader's record by its numbers; a first byte that is no byte makes it impossible
 unfoldable pub readerFrom : ℕ → ℕ → ℕ → ℕ → Reader

@@ -1,5 +1,7 @@
 // The C interface: both ends of the port as functions on numbers, byte slices and small arrays of numbers. include/belagunthi.h declares
 // them, with each promise beside its call.
+use collector::Collector;
+use collector::Got;
 use host::Heard;
 use host::Reply;
 use host::Written;
@@ -14,10 +16,12 @@ use slot::Slot;
 ghost use mathlib.Core.Path.{_≡_};
 ghost use mathlib.Core.List.{List};
 ghost use Prim.Native.Nat.{_<_, _≤_, ℕ};
+ghost use lib.ListN.{length};
 ghost use Rattle.map.specs.Fields.{flagNumber};
-ghost use Rattle.port.specs.Records.{readerNumbers, sessionNumbers, flagOf, readerFrom, sessionFrom, thereOf};
+ghost use Rattle.collector.specs.Collector.{said};
+ghost use Rattle.port.specs.Records.{collectorFrom, collectorNumbers, readerNumbers, sessionNumbers, flagOf, readerFrom, sessionFrom, thereOf};
 ghost use Rattle.port.specs.Records.{runThere, runStart, runLength, replyNumbers};
-ghost use Rattle.port.specs.Calls.{tookLine, keepsRecord, handledC, wroteBy, wroteC, sentFrame, configuredC, readC};
+ghost use Rattle.port.specs.Calls.{stepResult, stepLength, wentOn, collectedC, tookLine, keepsRecord, handledC, wroteBy, wroteC, sentFrame, configuredC, readC};
 ghost use Rattle.port.specs.Inner.{Storable, Held32};
 ghost use Rattle.host.specs.Write.{told, packet, writeEcho, writeReset, writeErase, writeUpload, nextSequence};
 ghost use Rattle.host.specs.Size.{mostData};
@@ -149,6 +153,93 @@ fn store_session(record: &mut [u32; 4], session: Session)
     let running = number_of_flag(session.running);
     let tagged = number_of_flag(session.tagged);
     *record = [running, session.length as u32, session.place as u32, tagged];
+}
+
+// The collector's record out of its two numbers and its bytes.
+fn collector_from(count: u32, skipping: u32, held: [u8; 126]) -> Collector
+    ensures { λ r. ⌜ (r ≡ collectorFrom count skipping held) × (length (r .held) ≡ 126) ⌝ }
+{
+    let is_skipping = flag_of(skipping);
+    Collector {
+        held,
+        count: count as usize,
+        skipping: is_skipping,
+    }
+}
+
+// The collector's record goes to its two numbers and its bytes.
+fn store_collector(record: &mut [u32; 2], held: &mut [u8; 126], collector: Collector)
+    requires { ⌜ collector .count ≤ 126 ⌝ }
+    ensures { λ _. ⌜ (now («record» .exit) ≡ collectorNumbers collector) × (now (held .exit) ≡ collector .held) ⌝ }
+{
+    let skipping = number_of_flag(collector.skipping);
+    *record = [collector.count as u32, skipping];
+    let bytes = collector.held;
+    *held = bytes;
+}
+
+// What a step of the collector gave, as a result.
+fn step_result(got: Got) -> u32
+    ensures { λ r. ⌜ r ≡ stepResult (said got) ⌝ }
+{
+    match got {
+        Got::Line(_) => 0,
+        Got::UsedUp => 0,
+        Got::Refused(why) => refusal::number(why),
+    }
+}
+
+// The length of the line that a step of the collector gave, or 0.
+fn step_length(got: Got) -> u32
+    requires { ⌜ stepLength (said got) ≤ 127 ⌝ }
+    ensures { λ r. ⌜ r ≡ stepLength (said got) ⌝ }
+{
+    match got {
+        Got::Line(n) => n as u32,
+        Got::UsedUp => 0,
+        Got::Refused(_) => 0,
+    }
+}
+
+// Whether a step with this result went on in its lump.
+fn went_on(n: u32) -> bool
+    ensures { λ r. ⌜ r ≡ wentOn n ⌝ }
+{
+    if n == 0 {
+        return true;
+    }
+    n == 2
+}
+
+// Goes on in a lump, to the end of the next line or to the lump's end: see include/belagunthi.h.
+#[no_mangle]
+pub extern "C" fn bg_collect(
+    record: &mut [u32; 2],
+    held: &mut [u8; 126],
+    lump: &[u8],
+    at: usize,
+    line: &mut [u8; 127],
+    got: &mut [u32; 2],
+) -> u32
+    ensures { λ r. ⌜ record {
+      result = r;
+      record-after = now («record» .exit);
+      held = now (held .exit);
+      line = now (line .exit);
+      got = now (got .exit);
+    } ≡ collectedC (now («record» .entry)) (now (held .entry)) (now (lump .entry)) at (now (line .entry)) (now (got .entry)) ⌝ }
+{
+    let before = collector_from(record[0], record[1], *held);
+    let step = before.collect(lump, at, line);
+    let gave = step.got;
+    let result = step_result(gave);
+    if went_on(result) {
+        let length = step_length(gave);
+        store_collector(record, held, step.collector);
+        *got = [length, step.place as u32];
+        return result;
+    }
+    result
 }
 
 // Takes one request packet: see include/belagunthi.h.

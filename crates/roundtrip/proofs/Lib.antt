@@ -5,3 +5,4 @@ pub mod Cuts
 pub mod Passage
 pub mod Sent
 pub mod Passing
+pub mod Lumped

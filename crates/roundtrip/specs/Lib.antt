@@ -1,2 +1,3 @@
 pub mod RoundTrip
 pub mod Inner
+pub mod Lumped

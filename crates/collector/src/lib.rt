@@ -1,0 +1,162 @@
+// The line collector: bytes come in lumps, as a serial driver has them, and each line is handed on when its 0A comes.
+use refusal::Refusal;
+ghost use mathlib.Core.Path.{_≡_};
+ghost use Prim.Native.Nat.{_≤_};
+ghost use lib.ListN.{length, drop};
+ghost use Rattle.frame.specs.Line.{longest};
+ghost use Rattle.collector.specs.Collector.{most, longestLump, impossible, empty, longer, ended, said, saying, outcome, stepped, collect};
+
+// The most bytes that stand before a line's 0A.
+pub const MOST: usize = frame::LONGEST - 1;
+
+// The longest lump.
+pub const LONGEST_LUMP: usize = 256;
+
+// The collector's record between two steps.
+pub struct Collector {
+    // The bytes of the line that has begun stand at the start of this array; what stands behind them is not looked at.
+    pub held: [u8; 126],
+    // How many bytes are held.
+    pub count: usize,
+    // The line that has begun is too long: its bytes are thrown away up to and including its 0A.
+    pub skipping: bool,
+}
+
+// What a step gives.
+pub enum Got {
+    // A line of this many bytes, its 0A included, stands at the start of the lent array.
+    Line(usize),
+    // The lump is used up.
+    UsedUp,
+    // The record or the lump was refused, and nothing was taken; or a line that is too long has ended.
+    Refused(Refusal),
+}
+
+// What a step gives, the place of the lump to go on from, and the collector for the next step.
+pub struct Step {
+    pub got: Got,
+    pub place: usize,
+    pub collector: Collector,
+}
+
+impl Collector {
+    // A collector that holds nothing.
+    pub fn new() -> Collector
+        ensures { λ r. ⌜ r ≡ empty ⌝ }
+    {
+        Collector {
+            held: [0u8; 126],
+            count: 0,
+            skipping: false,
+        }
+    }
+
+    // The collector with the bytes x more of its line, none of them 0A.
+    fn with(self, x: &[u8]) -> Collector
+        requires { ⌜ (length (self .held) ≡ most) × (self .count ≤ most) × (length (now x) ≤ longestLump) ⌝ }
+        ensures { λ r. ⌜ r ≡ longer self (now (x .entry)) ⌝ }
+    {
+        if self.skipping {
+            return self;
+        }
+        let count = self.count + x.len();
+        if MOST < count {
+            return Collector {
+                held: [0u8; 126],
+                count: 0,
+                skipping: true,
+            };
+        }
+        let mut held = self.held;
+        laws::put(&mut held, self.count, x);
+        Collector {
+            held,
+            count,
+            skipping: false,
+        }
+    }
+
+    // The line of the collector ends after the bytes x: it goes to the start of the lent array, unless it is too long.
+    fn end(self, x: &[u8], line: &mut [u8]) -> Got
+        requires { ⌜ (length (self .held) ≡ most) × (self .count ≤ most) × (length (now x) ≤ longestLump) × (length (now line) ≡ longest) ⌝ }
+        ensures { λ r. ⌜ (said r, now (line .exit)) ≡ saying (ended self (now (x .entry))) (now (line .entry)) ⌝ }
+    {
+        if self.skipping {
+            return Got::Refused(Refusal::LineTooLong);
+        }
+        let count = self.count;
+        let last = count + x.len();
+        if MOST < last {
+            return Got::Refused(Refusal::LineTooLong);
+        }
+        let held = self.held;
+        laws::put(line, 0, &held[..count]);
+        laws::put(line, count, x);
+        line[last] = frame::NEWLINE;
+        Got::Line(last + 1)
+    }
+
+    // Whether the collector holds more bytes than a line can have before its 0A, or an 0A.
+    fn is_impossible(self) -> bool
+        ensures { λ r. ⌜ r ≡ impossible self ⌝ }
+    {
+        let count = self.count;
+        if MOST < count {
+            return true;
+        }
+        let held = self.held;
+        bytes::scan::find(&held, 0, count, frame::NEWLINE) < count
+    }
+
+    // A step through a lump that is no longer than it may be.
+    fn step(self, lump: &[u8], at: usize, line: &mut [u8]) -> Step
+        requires { ⌜ (length (self .held) ≡ most) × (self .count ≤ most) × (length (now lump) ≤ longestLump) × (length (now line) ≡ longest) ⌝ }
+        ensures { λ r. ⌜ outcome r (now (line .exit)) ≡ stepped self (length (now (lump .entry))) at (drop at (now (lump .entry))) (now (line .entry)) ⌝ }
+    {
+        let len = lump.len();
+        if len <= at {
+            return Step {
+                got: Got::UsedUp,
+                place: len,
+                collector: self,
+            };
+        }
+        let end = bytes::scan::find(lump, at, len, frame::NEWLINE);
+        if end == len {
+            let next = self.with(&lump[at..]);
+            return Step {
+                got: Got::UsedUp,
+                place: len,
+                collector: next,
+            };
+        }
+        let got = self.end(&lump[at..end], line);
+        let next = Collector::new();
+        Step {
+            got,
+            place: end + 1,
+            collector: next,
+        }
+    }
+
+    // Goes on in a lump from a place: to the end of the next line, or to the lump's end.
+    pub fn collect(self, lump: &[u8], at: usize, line: &mut [u8; 127]) -> Step
+        ensures { λ r. ⌜ outcome r (now (line .exit)) ≡ collect self (now (lump .entry)) at (now (line .entry)) ⌝ }
+    {
+        if self.is_impossible() {
+            return Step {
+                got: Got::Refused(Refusal::Impossible),
+                place: at,
+                collector: self,
+            };
+        }
+        if LONGEST_LUMP < lump.len() {
+            return Step {
+                got: Got::Refused(Refusal::Unsendable),
+                place: at,
+                collector: self,
+            };
+        }
+        self.step(lump, at, line)
+    }
+}
