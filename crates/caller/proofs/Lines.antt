@@ -154,7 +154,7 @@ means r b reader p (refused n) h =
     }
 
 -- one call
-one-line : (r line p : List ℕ) (b : ℕ) → Means (tookLine r line p b) (takeLine (readerOf r) line p)
+pub one-line : (r line p : List ℕ) (b : ℕ) → Means (tookLine r line p b) (takeLine (readerOf r) line p)
 unfolding tookLine
 one-line r line p b =
     let o : Outcome = takeLine (readerOf r) line p in

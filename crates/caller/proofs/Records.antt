@@ -1,6 +1,6 @@
 -- Stored records are read back.
 -- Assumes nothing.
-use mathlib.Core.Path.{_≡_, refl, ap₂}
+use mathlib.Core.Path.{_≡_, refl, ap, ap₂}
 use mathlib.Core.Bool.{Bool, true, false}
 use borrow.Author.Tests.{le-ltb}
 use native.Mathlib.Omega.{arith}
@@ -10,14 +10,19 @@ use Rattle.reader.specs.declared.Reader.{Reader}
 use Rattle.reader.specs.declared.Reader.the-variants.{Idle, Open}
 use Rattle.slot.specs.declared.Session.{Session}
 use Rattle.map.specs.Fields.{flagNumber}
-use Rattle.port.specs.Records.{flagOf, readerFrom, readerNumbers, sessionNumbers}
-use Rattle.caller.specs.Records.{SessionBack, FirstByte, ReaderBack}
+use Rattle.port.specs.Records.{flagOf, collectorNumbers, readerFrom, readerNumbers, sessionNumbers}
+use Rattle.caller.specs.Records.{CollectorBack, SessionBack, FirstByte, ReaderBack}
 
 -- a flag that was stored is read back
 flag-back : (b : Bool) → flagOf (flagNumber b) ≡ b
 unfolding flagNumber
 flag-back true = refl
 flag-back false = refl
+
+-- a collector's record that was stored is read back
+pub collector-back : CollectorBack
+unfolding collectorNumbers
+collector-back c = ap (λ (s : Bool). record { held = c .held; count = c .count; skipping = s }) (flag-back (c .skipping))
 
 -- a session record that was stored is read back
 pub session-back : SessionBack

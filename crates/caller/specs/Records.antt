@@ -2,10 +2,15 @@
 -- Assumes nothing.
 use Prim.Native.Nat.{_<_}
 use mathlib.Core.Path.{_≡_}
+use Rattle.collector.specs.declared.Collector.{Collector}
 use Rattle.reader.specs.declared.Reader.{Reader}
 use Rattle.reader.specs.declared.Reader.the-variants.{Idle, Open}
 use Rattle.slot.specs.declared.Session.{Session}
-use Rattle.port.specs.Records.{readerOf, readerNumbers, sessionOf, sessionNumbers}
+use Rattle.port.specs.Records.{collectorOf, collectorNumbers, readerOf, readerNumbers, sessionOf, sessionNumbers}
+
+-- the collector's record
+abbrev pub CollectorBack : Type 0
+CollectorBack = (c : Collector) → collectorOf (collectorNumbers c) (c .held) ≡ c
 
 -- the session record
 abbrev pub SessionBack : Type 0

@@ -67,9 +67,9 @@ use Rattle.collector.proofs.Cut.{split-at, formed, stream-clean, stream
 unfoldable front : List Handed → Gathered → Gathered
 front hs g = record { handed = hs ++ g .handed; collector = g .collector }
 
--- what is handed on is a line of at most 127 bytes, or a line too long
+-- what is handed on is a line of 1 to 127 bytes, or a line too long
 data Kind (c : Collector) (x : List ℕ) : Type 0 where
-  a-line : (l : List ℕ) → ended c x ≡ line l → length l ≤ longest → Kind c x
+  a-line : (l : List ℕ) → ended c x ≡ line l → (0 < length l) × (length l ≤ longest) → Kind c x
   too-long : ended c x ≡ tooLong → Kind c x
 
 kind-of : (c : Collector) (x : List ℕ) → Possible c → Kind c x
@@ -80,7 +80,7 @@ kind-of c x p = by-test (c .skipping) refl
     by-test false e = elim (decLe (c .count + length x) most) [
       | no k ↦ too-long (ended-over c x e (omega (arith, k)))
       | yes k ↦ a-line (heldOf c ++ (x ++ (newline ∷ []))) (ended-line c x e k)
-          (rw (length-append, length-append, held-length c (formed c p .0) (formed c p .1)) (omega (arith, k)))
+          (rw (length-append, length-append, held-length c (formed c p .0) (formed c p .1)) (omega arith, omega (arith, k)))
     ]
 
 -- a step of a caller with a possible record and a lump that is not too long: to the lump's end, or to an 0A
@@ -89,7 +89,7 @@ pub data Stepping (c : Collector) (lump : List ℕ) (at : ℕ) (b : List ℕ) : 
       → collect c lump at b ≡ record { says = usedUp; place = length lump; collector = longer c (drop at lump); buffer = b }
       → Stepping c lump at b
   to-line : (l : List ℕ) → before (drop at lump) < length (drop at lump) → ended c (take (before (drop at lump)) (drop at lump)) ≡ line l
-      → length l ≤ longest
+      → (0 < length l) × (length l ≤ longest)
       → collect c lump at b ≡ record { says = lineOf (length l); place = at + before (drop at lump) + 1; collector = empty; buffer = pasted b 0 l }
       → Stepping c lump at b
   to-long : before (drop at lump) < length (drop at lump) → ended c (take (before (drop at lump)) (drop at lump)) ≡ tooLong
@@ -100,9 +100,6 @@ pub stepping : (c : Collector) (lump : List ℕ) (at : ℕ) (b : List ℕ) → P
 unfolding saying
 stepping c lump at b p short = by-test (hasNewline (drop at lump)) refl
   where
-    s : List ℕ
-    s = drop at lump
-
     step : collect c lump at b ≡ stepped c (length lump) at (drop at lump) b
     step = collect-steps c lump at b (p .1) short
 
@@ -123,7 +120,6 @@ stream-on : (c : Collector) (lump : List ℕ) (at : ℕ) (t : List ℕ) → befo
     → stream c (drop at lump ++ t)
     ≡ handing (ended c (take (before (drop at lump)) (drop at lump))) (stream empty (drop (at + before (drop at lump) + 1) lump ++ t))
 stream-on c lump at t h =
-    let s = drop at lump in
     let parts = split-at (drop at lump) h in
     let n : at + (before (drop at lump) + 1) ≡ at + before (drop at lump) + 1 = omega arith in
     let size : length (take (before (drop at lump)) (drop at lump)) ≡ before (drop at lump) = rw length-take (omega (arith, h)) in
@@ -180,7 +176,7 @@ gives-line c lump at t b n hs d size (to-line l h f small o) e rest =
     let u : lineOf (length l) ≡ lineOf n = sym (ap (λ (x : Outcome). x .says) o) ∙ e in
     let m : length l ≡ n = cc in
     let bytes : take n (pasted b 0 l) ≡ l
-    = ap (λ (k : ℕ). take k (pasted b 0 l)) (sym (zero-add (length l) ∙ m)) ∙ pasted-take b 0 l (rw size (omega (arith, small))) in
+    = ap (λ (k : ℕ). take k (pasted b 0 l)) (sym (zero-add (length l) ∙ m)) ∙ pasted-take b 0 l (rw size (omega (arith, small .1))) in
     let went : Gives empty lump (at + before (drop at lump) + 1) t hs d
     = rw o at (rest (rw o possible-empty)) in
     rw (o, bytes) (one-more c lump at t (line l) hs d h f went)
@@ -211,6 +207,11 @@ steps-give c lump at t hs d p short (lined {hs = ks} b n size e rest) =
 steps-give c lump at t hs d p short (long {hs = ks} b size e rest) =
     gives-long c lump at t b ks d (stepping c lump at b p short) e
     (λ q. steps-give (collect c lump at b .collector) lump (collect c lump at b .place) t ks d q short rest)
+
+-- the record after them is possible
+pub steps-possible : (c : Collector) (lump : List ℕ) (at : ℕ) (hs : List Handed) (d : Collector) → Possible c → length lump ≤ longestLump
+    → Steps c lump at hs d → Possible d
+steps-possible c lump at hs d p short steps = steps-give c lump at [] hs d p short steps .1
 
 pub lumps-give : LumpsGive
 unfolding joined front
@@ -258,7 +259,7 @@ end-step c lump at p (to-end clean o) rest =
     rw (ends-clean c (drop at lump) p clean) v
 end-step c lump at p (to-line l h f small o) rest =
     let bytes : take (length l) (pasted lent 0 l) ≡ l
-    = ap (λ (k : ℕ). take k (pasted lent 0 l)) (sym (zero-add (length l))) ∙ pasted-take lent 0 l (omega (arith, small)) in
+    = ap (λ (k : ℕ). take k (pasted lent 0 l)) (sym (zero-add (length l))) ∙ pasted-take lent 0 l (omega (arith, small .1)) in
     let r = stream empty (drop (at + before (drop at lump) + 1) lump) in
     let went : Steps (collect c lump at lent .collector) lump (collect c lump at lent .place) (r .handed) (r .collector) = rw o (rest h) in
     rw (ends-line c lump at (line l) h f, ← bytes) (rw o at (lined {c = c} {lump = lump} {at = at} lent (length l) refl (rw o refl) went))

@@ -4,6 +4,9 @@ use Prim.Native.Nat.{ℕ}
 use mathlib.Core.Path.{_≡_, refl, sym, ap, _∙_}
 use mathlib.Core.List.{List}
 use Rattle.refusal.proofs.Once.{refusalOf, number-back}
+use Rattle.collector.specs.declared.Got.{Got}
+use Rattle.collector.specs.declared.Step.{Step}
+use Rattle.collector.specs.Collector as collecting
 use Rattle.reader.specs.declared.Taken.{Taken}
 use Rattle.reader.specs.declared.Answer.{Answer}
 use Rattle.reader.specs.Reader as reading
@@ -20,6 +23,7 @@ use Rattle.host.specs.declared.Heard.{Heard}
 use Rattle.host.specs.Read as hearing
 use Rattle.determined.specs.Determined.{
   Determines,
+  StepDetermined,
   LineDetermined,
   FrameDetermined,
   ConfiguredDetermined,
@@ -31,6 +35,23 @@ use Rattle.determined.specs.Determined.{
 -- what leads back determines
 pub by-return : {A O : Type 0} (f : A → O) (back : O → A) → ((a : A) → back (f a) ≡ a) → Determines f
 by-return f back returns o a b p q = sym (returns a) ∙ ap back (p ∙ sym q) ∙ returns b
+
+-- what a step of the collector gave, from what it said
+abbrev ungiven : collecting.Said → Got
+ungiven (collecting.lineOf n) = Got.Line n
+ungiven collecting.usedUp = Got.UsedUp
+ungiven (collecting.refusing n) = Got.Refused (refusalOf n)
+
+ungiven-said : (g : Got) → ungiven (collecting.said g) ≡ g
+ungiven-said (Got.Line n) = refl
+ungiven-said Got.UsedUp = refl
+ungiven-said (Got.Refused r) = ap Got.Refused (number-back r)
+
+pub step-determined : StepDetermined
+step-determined =
+    by-return (λ x. collecting.outcome (x .0) (x .1))
+    (λ o. (record { got = ungiven (o .says); place = o .place; collector = o .collector }, o .buffer))
+    (λ x. ap {A = Got} {B = Step × List ℕ} (λ g. (record { got = g; place = x .0 .place; collector = x .0 .collector }, x .1)) (ungiven-said (x .0 .got)))
 
 -- the reader's answer, from what it said
 abbrev unsaid : reading.Said → Answer

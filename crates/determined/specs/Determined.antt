@@ -6,6 +6,8 @@
 use Prim.Native.Nat.{ℕ}
 use mathlib.Core.Path.{_≡_}
 use mathlib.Core.List.{List}
+use Rattle.collector.specs.declared.Step.{Step}
+use Rattle.collector.specs.Collector as collecting
 use Rattle.reader.specs.declared.Taken.{Taken}
 use Rattle.reader.specs.Reader as reading
 use Rattle.sender.specs.declared.Sent.{Sent}
@@ -22,6 +24,10 @@ use Rattle.host.specs.Read as hearing
 -- a promise `f a ≡ o` determines a
 abbrev pub Determines : {A O : Type 0} → (A → O) → Type 0
 Determines {A} {O} f = (o : O) (a b : A) → f a ≡ o → f b ≡ o → a ≡ b
+
+-- collect: the answer with the place and the record, and the lent array
+abbrev pub StepDetermined : Type 0
+StepDetermined = Determines {A = Step × List ℕ} {O = collecting.Outcome} (λ x. collecting.outcome (x .0) (x .1))
 
 -- take_line: the answer with the record, and the packet buffer
 abbrev pub LineDetermined : Type 0

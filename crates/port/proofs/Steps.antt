@@ -32,7 +32,7 @@ stepping-small c lump at b p short (to-end clean o) =
     let next = possible-longer c (drop at lump) p clean in
     rw o (λ went. (omega arith, short, formed (collecting.longer c (drop at lump)) next .1))
 stepping-small c lump at b p short (to-line l h f small o) =
-    rw o (λ went. (small, omega (arith, h, short, length-drop at lump), omega arith))
+    rw o (λ went. (small .1, omega (arith, h, short, length-drop at lump), omega arith))
 stepping-small c lump at b p short (to-long h f o) =
     rw o (λ went. (omega arith, omega (arith, h, short, length-drop at lump), omega arith))
 
