@@ -24,6 +24,7 @@ enum { DATA = 480, CHUNK = 512, TEXT = 256, PAIRS = 24, MAPS = 2000, ERASES = 4 
 
 /* The calls of one program. */
 struct port {
+    __typeof__(bg_collect) *collect;
     __typeof__(bg_take_line) *take_line;
     __typeof__(bg_send_frame) *send_frame;
     __typeof__(bg_configure) *configure;
@@ -35,10 +36,10 @@ struct port {
 };
 
 static const struct port archive = {
-    bg_take_line, bg_send_frame, bg_configure, bg_handle, bg_write_echo, bg_write_upload, bg_read_reply, bg_next_sequence,
+    bg_collect, bg_take_line, bg_send_frame, bg_configure, bg_handle, bg_write_echo, bg_write_upload, bg_read_reply, bg_next_sequence,
 };
 static const struct port plain = {
-    plain_take_line, plain_send_frame, plain_configure, plain_handle, plain_write_echo, plain_write_upload, plain_read_reply,
+    plain_collect, plain_take_line, plain_send_frame, plain_configure, plain_handle, plain_write_echo, plain_write_upload, plain_read_reply,
     plain_next_sequence,
 };
 static const struct port *port;
@@ -50,7 +51,8 @@ struct result {
 
 static const uint64_t no_bytes = 14695981039346656037u;
 
-static size_t image_len, slot_size, body_size, leave_last, line_count, out_len, request_count, reply_count, request_stride = PACKET;
+static size_t image_len, slot_size, body_size, leave_last, lump_size, line_count, step_count, out_len, request_count, reply_count;
+static size_t request_stride = PACKET;
 static uint8_t *image, *lines, *out, *memory, *requests, *replies;
 static uint32_t *line_lens, *request_lens, *reply_lens, *numbers_read;
 static uint64_t sum;
@@ -100,6 +102,24 @@ static void run_send(void)
             line_lens[line_count++] = sent[0];
         }
         at += length;
+    }
+}
+
+/* Goes through every lump of the stream, and keeps each line. */
+static void run_collect(void)
+{
+    uint32_t collector[BG_COLLECTOR] = {0, 0}, got[2];
+    uint8_t held[BG_HELD] = {0};
+    line_count = step_count = 0;
+    for (size_t from = 0; from < out_len; from += lump_size) {
+        size_t length = out_len - from < lump_size ? out_len - from : lump_size;
+        for (size_t at = 0; at < length; at = got[1]) {
+            if (port->collect(collector, held, out + from, length, at, lines + line_count * STRIDE, got) != 0)
+                fail("a lump was refused");
+            line_lens[line_count] = got[0];
+            line_count += got[0] > 0;
+            step_count++;
+        }
     }
 }
 
@@ -223,6 +243,18 @@ static void run_upload(void)
 /* Nothing has to be there before. */
 static void make_nothing(void)
 {
+}
+
+/* Joins the lines of every body to one stream in the output, and clears them. */
+static void make_stream(void)
+{
+    run_send();
+    out_len = 0;
+    for (size_t i = 0; i < line_count; i++) {
+        memcpy(out + out_len, lines + i * STRIDE, line_lens[i]);
+        out_len += line_lens[i];
+        memset(lines + i * STRIDE, 0, STRIDE);
+    }
 }
 
 /* Records the requests and replies of an upload. */
@@ -409,6 +441,12 @@ static struct result sent_lines(void)
     return (struct result){digest_all(lines, line_lens, line_count, STRIDE), image_len, line_count, leave_last ? 0 : image_len};
 }
 
+/* What was collected: the lines again. */
+static struct result collected_lines(void)
+{
+    return (struct result){digest_all(lines, line_lens, line_count, STRIDE), out_len, step_count, 0};
+}
+
 /* What was read: the bodies; or, without the last frames, what stands of the last long one. */
 static struct result read_bodies(void)
 {
@@ -469,25 +507,29 @@ static const struct path {
     const char *name;
     void (*make)(void), (*run)(void);
     struct result (*produced)(void);
-    size_t body_size, leave_last;
+    size_t body_size, leave_last, lump_size;
 } paths[] = {
-    {"send", make_nothing, run_send, sent_lines, BODY, 0},
-    {"sendlong", make_nothing, run_send, sent_lines, LONGEST, 0},
-    {"sendlong-open", make_nothing, run_send, sent_lines, LONGEST, 1},
-    {"read", run_send, run_read, read_bodies, BODY, 0},
-    {"readlong", run_send, run_read, read_bodies, LONGEST, 0},
-    {"readlong-open", run_send, run_read, read_bodies, LONGEST, 1},
-    {"crc", make_nothing, run_crc, computed_crcs, BODY, 0},
-    {"reply", make_upload, run_reply, read_replies, 0, 0},
-    {"echo", make_echo_replies, run_reply, read_replies, 0, 0},
-    {"pairs", make_pairs, run_reply, read_replies, 0, 0},
-    {"handle", make_echoes, run_handle, answered, 0, 0},
-    {"chunks", make_chunks, run_handle, answered, 0, 0},
-    {"unknown", make_unknown, run_handle, answered, 0, 0},
-    {"erase", make_erases, run_handle, erased, 0, 0},
-    {"frames", make_upload, run_frames, passed, 0, 0},
-    {"upload", make_nothing, run_upload, uploaded, 0, 0},
-    {"fill", make_fill, run_handle, answered, 0, 0},
+    {"send", make_nothing, run_send, sent_lines, BODY, 0, 0},
+    {"sendlong", make_nothing, run_send, sent_lines, LONGEST, 0, 0},
+    {"sendlong-open", make_nothing, run_send, sent_lines, LONGEST, 1, 0},
+    {"collect256", make_stream, run_collect, collected_lines, BODY, 0, 256},
+    {"collect64", make_stream, run_collect, collected_lines, BODY, 0, 64},
+    {"collect16", make_stream, run_collect, collected_lines, BODY, 0, 16},
+    {"collect1", make_stream, run_collect, collected_lines, BODY, 0, 1},
+    {"read", run_send, run_read, read_bodies, BODY, 0, 0},
+    {"readlong", run_send, run_read, read_bodies, LONGEST, 0, 0},
+    {"readlong-open", run_send, run_read, read_bodies, LONGEST, 1, 0},
+    {"crc", make_nothing, run_crc, computed_crcs, BODY, 0, 0},
+    {"reply", make_upload, run_reply, read_replies, 0, 0, 0},
+    {"echo", make_echo_replies, run_reply, read_replies, 0, 0, 0},
+    {"pairs", make_pairs, run_reply, read_replies, 0, 0, 0},
+    {"handle", make_echoes, run_handle, answered, 0, 0, 0},
+    {"chunks", make_chunks, run_handle, answered, 0, 0, 0},
+    {"unknown", make_unknown, run_handle, answered, 0, 0, 0},
+    {"erase", make_erases, run_handle, erased, 0, 0, 0},
+    {"frames", make_upload, run_frames, passed, 0, 0, 0},
+    {"upload", make_nothing, run_upload, uploaded, 0, 0, 0},
+    {"fill", make_fill, run_handle, answered, 0, 0, 0},
 };
 
 /* The path of this name; of a family's name the rest is kept. */
@@ -550,6 +592,7 @@ static void measure(const char *name, size_t kib, unsigned long rounds)
     set_up(kib * 1024);
     body_size = path->body_size;
     leave_last = path->leave_last;
+    lump_size = path->lump_size;
     path->make();
     for (unsigned long i = 0; i < rounds; i++) {
         uint64_t from = now();

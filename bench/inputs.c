@@ -604,3 +604,34 @@ void make_reader(struct rng *rng, uint32_t reader[4])
         record[1] = (uint32_t)(once_in(rng, 2) ? range(rng, 8, 11) : range(rng, 65534, 65537));
     memcpy(reader, record, sizeof record);
 }
+
+/* Bytes without an 0A. */
+static void fill_line(struct rng *rng, uint8_t *to, size_t length)
+{
+    fill(rng, to, length);
+    for (size_t i = 0; i < length; i++)
+        to[i] ^= to[i] == 0x0A;
+}
+
+/* A lump of bytes with some line ends or none; now and then too long. */
+size_t make_lump(struct rng *rng, uint8_t lump[LUMP_MAX])
+{
+    size_t length = once_in(rng, 12) ? range(rng, 250, LUMP_MAX) : once_in(rng, 4) ? below(rng, 4) : below(rng, 257);
+    size_t ends = once_in(rng, 8) ? below(rng, 20) : below(rng, 4);
+    fill_line(rng, lump, length);
+    for (; length > 0 && ends > 0; ends--)
+        lump[below(rng, length)] = 0x0A;
+    return length;
+}
+
+/* A collector's record and bytes: empty, possible, or any. */
+void make_collector(struct rng *rng, uint32_t collector[2], uint8_t held[126])
+{
+    collector[0] = (uint32_t)(once_in(rng, 4) ? 0 : once_in(rng, 3) ? range(rng, 120, 126) : below(rng, 127));
+    collector[1] = once_in(rng, 3) ? (uint32_t)number(rng) : 0;
+    fill_line(rng, held, 126);
+    if (once_in(rng, 8))
+        held[below(rng, 126)] = 0x0A;
+    if (once_in(rng, 8))
+        collector[0] = (uint32_t)number(rng);
+}

@@ -6,8 +6,8 @@
 #include <stddef.h>
 #include <stdint.h>
 
-/* The longest packet made, with ten bytes more than the longest one allowed, and the longest line. */
-enum { PACKET_MAX = 65543, LINE_MAX = 160 };
+/* The longest packet made, with ten bytes more than the longest one allowed, the longest line, and the longest lump. */
+enum { PACKET_MAX = 65543, LINE_MAX = 160, LUMP_MAX = 262 };
 
 /* A generator of numbers (xorshift64*). */
 struct rng {
@@ -37,5 +37,8 @@ size_t encode_line(bool initial, const uint8_t *raw, size_t raw_len, uint8_t lin
 size_t damage_line(struct rng *rng, uint8_t line[LINE_MAX], size_t length);
 size_t make_line(struct rng *rng, uint8_t line[LINE_MAX]);
 void make_reader(struct rng *rng, uint32_t reader[4]);
+
+size_t make_lump(struct rng *rng, uint8_t lump[LUMP_MAX]);
+void make_collector(struct rng *rng, uint32_t collector[2], uint8_t held[126]);
 
 #endif

@@ -16,6 +16,11 @@ enum { GUARD = 32, MEMORY_MAX = 1048576 + 64, LONGEST = 65533 };
 
 /* The kinds of outcome, each with its name. */
 #define OUTCOMES(is)                                                                                                                    \
+    is(LUMP_1_COUNT, "lump: refused 1, over 126 bytes held") is(LUMP_1_END, "lump: refused 1, an 0A held")                              \
+    is(LUMP_12, "lump: refused 12") is(LUMP_2, "lump: refused 2") is(LUMP_LINE, "lump: a line")                                         \
+    is(LUMP_LONGEST, "lump: a line of 127 bytes") is(LUMP_BEYOND, "lump: used up, from a place beyond it")                              \
+    is(LUMP_HELD, "lump: used up, bytes held") is(LUMP_FULL, "lump: used up, 126 bytes held")                                           \
+    is(LUMP_SKIPS, "lump: used up, a line too long begins") is(LUMP_SKIPPED, "lump: used up in a line too long")                        \
     is(LINE_2, "line: refused 2") is(LINE_3, "line: refused 3") is(LINE_4, "line: refused 4") is(LINE_5, "line: refused 5")             \
     is(LINE_6, "line: refused 6") is(LINE_7, "line: refused 7") is(LINE_8, "line: refused 8") is(LINE_9, "line: refused 9")             \
     is(LINE_MORE, "line: more is wanted") is(LINE_CRC, "line: more, the first CRC byte kept") is(LINE_BODY, "line: a packet")           \
@@ -62,9 +67,9 @@ struct numbers {
     uint8_t tag[32];
 };
 
-static struct twin memory, packet_buffer, reply_buffer, out_buffer;
+static struct twin memory, packet_buffer, reply_buffer, out_buffer, held_buffer;
 static struct numbers lent[2];
-static uint8_t packet[PACKET_MAX], line[LINE_MAX], body[PACKET_MAX];
+static uint8_t packet[PACKET_MAX], line[LINE_MAX], lump[LUMP_MAX], body[PACKET_MAX];
 
 /* Ends with what differs. */
 static void differ(const char *call, const char *what)
@@ -126,6 +131,70 @@ static void met(enum outcome outcome)
 static const uint8_t *or_null(const uint8_t *bytes, size_t length)
 {
     return length == 0 && once_in(&rng, 2) ? NULL : bytes;
+}
+
+/* The outcome of a step that was not refused and completed no line, by the record before and after. */
+static enum outcome used_up_outcome(uint32_t skipping, size_t length, size_t at)
+{
+    if (at > length)
+        return LUMP_BEYOND;
+    if (lent[0].record[1] != 0)
+        return skipping != 0 ? LUMP_SKIPPED : LUMP_SKIPS;
+    return lent[0].record[0] == BG_HELD ? LUMP_FULL : LUMP_HELD;
+}
+
+/* Goes a step through the lump with both, and counts what came of it. */
+static uint32_t compare_step(size_t length, size_t at)
+{
+    const uint8_t *from = or_null(lump, length);
+    uint32_t count = lent[0].record[0], skipping = lent[0].record[1], *got = lent[0].answer;
+    uint32_t said = bg_collect(lent[0].record, held_buffer.of[0], from, length, at, out_buffer.of[0], got);
+    hold_numbers("collect", said,
+                 plain_collect(lent[1].record, held_buffer.of[1], from, length, at, out_buffer.of[1], lent[1].answer));
+    hold("collect", &held_buffer);
+    hold("collect", &out_buffer);
+    if (said == 1)
+        met(count > BG_HELD ? LUMP_1_COUNT : LUMP_1_END);
+    else if (said != 0)
+        met(said == 12 ? LUMP_12 : LUMP_2);
+    else if (got[0] > 0)
+        met(got[0] == BG_LINE ? LUMP_LONGEST : LUMP_LINE);
+    else
+        met(used_up_outcome(skipping, length, at));
+    return said;
+}
+
+/* Lends a record and bytes of the collector to both, and an array for its line. */
+static void lend_collector(void)
+{
+    lend_numbers();
+    lend(&held_buffer, BG_HELD);
+    lend(&out_buffer, BG_LINE);
+    make_collector(&rng, lent[0].record, held_buffer.of[0]);
+    memcpy(lent[1].record, lent[0].record, sizeof lent[0].record);
+    memcpy(held_buffer.of[1], held_buffer.of[0], BG_HELD);
+}
+
+/* One step for any record, from any place of a lump. */
+static void check_step(void)
+{
+    lend_collector();
+    size_t length = make_lump(&rng, lump);
+    compare_step(length, once_in(&rng, 8) ? (size_t)number(&rng) : below(&rng, length + 2));
+}
+
+/* A row of lumps, each gone through until it is used up. */
+static void check_lumps(void)
+{
+    lend_collector();
+    for (size_t left = range(&rng, 2, 12); left > 0; left--) {
+        size_t length = make_lump(&rng, lump), at = 0;
+        uint32_t said;
+        do {
+            said = compare_step(length, at);
+            at = lent[0].answer[1];
+        } while (said != 1 && said != 12 && at < length);
+    }
 }
 
 /* Takes a line with both, and counts what came of it. */
@@ -487,8 +556,8 @@ static void check_sequence(void)
 
 /* The checks; one that stands more than once is made as often. */
 static void (*const checks[])(void) = {
-    check_line, check_line, check_packet, check_send, check_configure, check_request, check_request, check_request, check_history,
-    check_echo, check_upload, check_upload, check_reply, check_reply, check_reply, check_sequence,
+    check_step, check_lumps, check_line, check_line, check_packet, check_send, check_configure, check_request, check_request,
+    check_request, check_history, check_echo, check_upload, check_upload, check_reply, check_reply, check_reply, check_sequence,
 };
 
 /* Makes the rounds and prints what was met. */
@@ -504,6 +573,7 @@ int main(int argc, char **argv)
     packet_buffer = twin_of(PACKET_MAX + 16);
     reply_buffer = twin_of(PACKET_MAX);
     out_buffer = twin_of(PACKET_MAX + 128);
+    held_buffer = twin_of(BG_HELD);
     for (round_number = 0; round_number < rounds; round_number++) {
         rng = rng_of(seed * 1000003 + round_number);
         checks[below(&rng, sizeof checks / sizeof *checks)]();

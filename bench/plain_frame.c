@@ -4,7 +4,7 @@
 #include <stdbool.h>
 #include <string.h>
 
-enum { LINE = 127, RAW = 93, BODY_MIN = 8, BODY_MAX = 65533, ONE_FRAME_BELOW = 89, FIRST = 91 };
+enum { LUMP = 256, HELD = 126, LINE = 127, RAW = 93, BODY_MIN = 8, BODY_MAX = 65533, ONE_FRAME_BELOW = 89, FIRST = 91 };
 
 #ifndef PLAIN_CRC_BITS
 static const uint16_t crc_table[256] = {
@@ -132,6 +132,50 @@ size_t plain_encode(const uint8_t *raw, size_t length, uint8_t *text)
         *to++ = '=';
     }
     return (size_t)(to - text);
+}
+
+/* Makes the collector's record and bytes all 0, but for whether it skips. */
+static void clear(uint32_t collector[2], uint8_t held[126], bool skipping)
+{
+    collector[0] = 0;
+    collector[1] = skipping;
+    memset(held, 0, HELD);
+}
+
+/* Goes one step through a lump: to the end of the next line, or to the lump's end. */
+uint32_t plain_collect(uint32_t collector[2], uint8_t held[126], const uint8_t *lump, size_t lump_len, size_t at, uint8_t line[127],
+                       uint32_t got[2])
+{
+    uint32_t count = collector[0];
+    bool skipping = collector[1] != 0;
+    if (count > HELD || memchr(held, 0x0A, count) != NULL)
+        return 1;
+    if (lump_len > LUMP)
+        return 12;
+
+    const uint8_t *end = at < lump_len ? memchr(lump + at, 0x0A, lump_len - at) : NULL;
+    size_t place = end != NULL ? (size_t)(end - lump) : lump_len, come = at < lump_len ? place - at : 0;
+    bool too_long = skipping || count + come > HELD;
+    got[0] = 0;
+    got[1] = (uint32_t)place;
+    if (end == NULL) {
+        collector[1] = too_long;
+        if (too_long && !skipping) {
+            clear(collector, held, true);
+        } else if (!skipping && come > 0) {
+            memcpy(held + count, lump + at, come);
+            collector[0] = count + (uint32_t)come;
+        }
+        return 0;
+    }
+    got[1]++;
+    if (!too_long) {
+        memcpy(line, held, count);
+        memcpy(line + count, lump + at, come + 1);
+        got[0] = count + (uint32_t)come + 1;
+    }
+    clear(collector, held, false);
+    return too_long ? 2 : 0;
 }
 
 /* Makes the record idle and passes a refusal on. */

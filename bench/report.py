@@ -14,6 +14,10 @@ PATHS = {
     "send": "sender, bodies of 512",
     "sendlong": "sender, bodies of 65,533",
     "sendlong-open": "sender, long, no CRC",
+    "collect256": "collector, lumps of 256",
+    "collect64": "collector, lumps of 64",
+    "collect16": "collector, lumps of 16",
+    "collect1": "collector, lumps of 1",
     "read": "reader, bodies of 512",
     "readlong": "reader, bodies of 65,533",
     "readlong-open": "reader, long, no CRC",
@@ -30,7 +34,8 @@ PATHS = {
     "upload": "whole upload",
 }
 # The paths whose calls are counted too.
-CALLS = ["reply", "echo", "pairs", "handle", "chunks", "unknown", "worst", "erase"]
+CALLS = ["collect256", "collect64", "collect16", "collect1", "reply", "echo", "pairs", "handle", "chunks", "unknown", "worst",
+         "erase"]
 # The paths with a CRC, each with the long paths that say what it costs.
 WITH_CRC = {"send": ["sendlong"], "sendlong": ["sendlong"], "read": ["readlong"], "readlong": ["readlong"],
             "frames": ["sendlong", "readlong"], "upload": ["sendlong", "readlong"]}
@@ -282,6 +287,8 @@ What the last frame of each body of 65,533 bytes adds, which is where the CRC is
 - The image is 1 MiB of pseudo-random bytes of a fixed seed. Sender and reader: the image is cut into bodies of 512
   bytes (the packet size that the upload program takes) or 65,533 (the longest); a byte is a byte of the body.
   "No CRC": the last frame of each body is left out, and with it the CRC in all programs.
+- Collector: the lines of the bodies of 512 as one stream, which is cut into lumps of one length, and each lump is gone
+  through until it is used up; a byte is a byte of the stream, a call is a step through a lump.
 - Maps: a byte is a byte of the packet that is read. Upload replies: those of a whole upload, about 22 bytes each.
   Echoes: 2,000 texts of 256 bytes. Replies of 25 pairs: 2,000 maps with 24 unknown pairs of 7 bytes before the rc.
   Requests of 24 unknown pairs: 2,000 of them, in turn echoes, with a text after the same pairs, and resets.

@@ -10,13 +10,16 @@
 
 enum { MEMORY = 65536, SLOT_START = 16384, SLOT = 32768, PACKET = 1024 };
 
-static uint8_t memory[MEMORY], line[BG_LINE + 1], packet[PACKET], reply[PACKET], frame[BG_LINE], tag[BG_TAG];
-static uint32_t reader[BG_READER], session[BG_SESSION];
+static uint8_t memory[MEMORY], packet[PACKET], reply[PACKET], frame[BG_LINE], tag[BG_TAG];
+static uint8_t lump[BG_LUMP], held[BG_HELD], line[BG_LINE];
+static uint32_t collector[BG_COLLECTOR], reader[BG_READER], session[BG_SESSION];
 
-/* Waits for a byte of the line; 0 where the line has ended. */
-static int get(uint8_t *byte)
+/* Waits for a lump of bytes and gives how many there are; 0 where no more will come. */
+static size_t get(void)
 {
-    return read(0, byte, 1) == 1;
+    ssize_t come = read(0, lump, sizeof lump);
+
+    return come > 0 ? (size_t)come : 0;
 }
 
 /* Sends bytes. */
@@ -29,7 +32,7 @@ static void put(int descriptor, const uint8_t *bytes, size_t len)
     }
 }
 
-/* Takes a line that has ended: where it completes a request, does it and sends the reply's frames; 1 for a reset. */
+/* Takes a line: where it completes a request, does it and sends the reply's frames; 1 for a reset. */
 static int take_line(size_t len)
 {
     uint32_t body = 0, answer[2] = {0, 0}, sent[2] = {0, 1};
@@ -44,25 +47,37 @@ static int take_line(size_t len)
     return answer[1] != 0;
 }
 
+/* Takes each line that a lump completes, until the lump is used up; 1 for a reset. */
+static int take_lump(size_t len)
+{
+    uint32_t said, got[2] = {0, 0};
+
+    do {
+        said = bg_collect(collector, held, lump, len, got[1], line, got);
+        if (said == BG_DONE && got[0] == 0) {
+            return 0;
+        }
+        if (said == BG_DONE && take_line(got[0])) {
+            return 1;
+        }
+    } while (said == BG_DONE || said == BG_LINE_TOO_LONG);
+    return 0;
+}
+
 /* Serves until a reset. */
 int main(void)
 {
-    size_t len = 0;
+    size_t len;
 
     memset(memory, 255, MEMORY);
     if (bg_configure(SLOT_START, SLOT, MEMORY, session, tag) != 0) {
         return 1;
     }
-    while (get(&line[len])) {
-        if (line[len] != '\n') {
-            len += len < BG_LINE; /* a line that is too long keeps one byte too many, and is refused */
-            continue;
-        }
-        if (take_line(len + 1)) {
+    while ((len = get()) > 0) {
+        if (take_lump(len)) {
             put(2, memory, MEMORY);
             return 0;
         }
-        len = 0;
     }
     return 1;
 }

@@ -27,6 +27,7 @@ namespace {
 
 using Bytes = std::vector<std::uint8_t>;
 using Clock = std::chrono::steady_clock;
+using Lump = std::array<std::uint8_t, BG_LUMP>;
 
 constexpr std::size_t packet_room = 512;
 constexpr unsigned tries = 30;
@@ -68,12 +69,15 @@ public:
         }
     }
 
-    // Waits for a byte, until a moment; false where none came.
-    bool receive(std::uint8_t &byte, Clock::time_point until)
+    // Waits for a lump of bytes, until a moment, and gives how many there are; 0 where none came.
+    std::uint32_t receive(Lump &lump, Clock::time_point until)
     {
         auto left = std::chrono::duration_cast<std::chrono::milliseconds>(until - Clock::now()).count();
         pollfd wait = {port_, POLLIN, 0};
-        return left > 0 && poll(&wait, 1, static_cast<int>(left)) == 1 && read(port_, &byte, 1) == 1;
+        if (left <= 0 || poll(&wait, 1, static_cast<int>(left)) != 1) {
+            return 0;
+        }
+        return static_cast<std::uint32_t>(std::max<ssize_t>(read(port_, lump.data(), lump.size()), 0));
     }
 
 private:
@@ -125,26 +129,40 @@ private:
     // Waits for the reply to the last request, until a moment; other lines and replies are passed over.
     bool answered(std::uint32_t group, std::uint32_t command, Clock::time_point until)
     {
-        std::uint8_t byte;
-        while (port_.receive(byte, until)) {
-            line_.push_back(byte);
-            if (byte != '\n') {
-                continue;
-            }
+        while (std::size_t len = next_line(until)) {
             std::uint32_t body = 0;
-            bool taken = bg_take_line(reader_, line_.data(), line_.size(), answer_.data(), answer_.size(), &body) == 0;
-            line_.clear();
-            if (taken && body > 0 && bg_read_reply(answer_.data(), body, reply_) == 0 && reply_[0] == 3 &&
-                reply_[3] == group && reply_[4] == sequence_ && reply_[5] == command) {
+            if (bg_take_line(reader_, line_, len, answer_.data(), answer_.size(), &body) == 0 && body > 0 &&
+                bg_read_reply(answer_.data(), body, reply_) == 0 && reply_[0] == 3 && reply_[3] == group &&
+                reply_[4] == sequence_ && reply_[5] == command) {
                 return true;
             }
         }
         return false;
     }
 
+    // Waits for the next line, until a moment, and gives its length; 0 where none came. Lines that are too long are
+    // passed over.
+    std::size_t next_line(Clock::time_point until)
+    {
+        while (at_ < lump_len_ || (at_ = 0, lump_len_ = port_.receive(lump_, until)) > 0) {
+            std::uint32_t got[2] = {0, lump_len_};
+            bg_collect(collector_, held_, lump_.data(), lump_len_, at_, line_, got);
+            at_ = got[1];
+            if (got[0] > 0) {
+                return got[0];
+            }
+        }
+        return 0;
+    }
+
     Port &port_;
     std::uint8_t sequence_;
-    Bytes line_;
+    Lump lump_;
+    std::uint32_t lump_len_ = 0;
+    std::uint32_t at_ = 0;
+    std::uint32_t collector_[BG_COLLECTOR] = {};
+    std::uint8_t held_[BG_HELD] = {};
+    std::uint8_t line_[BG_LINE];
     std::uint32_t reader_[BG_READER] = {};
     std::uint32_t reply_[BG_REPLY] = {};
     std::array<std::uint8_t, packet_room> packet_;

@@ -3,8 +3,9 @@
  *
  * Each call is proved to keep the promise in the comment above it, for every value of its arguments: it ends, it touches nothing but what
  * it is lent, and it returns 0 or the number of one refusal (bg_next_sequence and bg_most_data refuse nothing, and return their number). After a
- * refusal every lent byte and number is as it was, but for the reader's record at refusals 4, 6, 7, 8 and 9, which is then idle. No call keeps
- * anything of its own: there is nothing to set up, and calls on different arrays may run at the same time.
+ * refusal every lent byte and number is as it was, but for two: at 4, 6, 7, 8 and 9 the reader's record is then idle, and at the collector's 2 its record
+ * is then empty and the place behind the line is given. No call keeps anything of its own: there is nothing to set up, and calls on different arrays may
+ * run at the same time.
  *
  * What the caller owes, and no call can check:
  *  - A pointer with a length is that many bytes, his to lend for the call; it may be null where the length is 0. Every other pointer (an array, an
@@ -15,10 +16,11 @@
  *
  * What a controller owes for the promise over a row of calls (see bg_handle): after one bg_configure that returned 0, start and size stay as they were
  * configured, and memory, session record and tag come back to each call as the last one left them. A reader owes the same of its record and its
- * packet buffer from line to line (see bg_take_line).
+ * packet buffer from line to line (see bg_take_line), and of the collector's record and its bytes from step to step (see bg_collect).
  *
  * To link: the archive libport.a is code for x86-64 Linux, today for no other processor, and needs memcpy and memset of the C library, and nothing
  * else. No call takes more than BG_STACK bytes of stack; measured on x86-64, without what memcpy and memset take:
+ *   bg_collect         520
  *   bg_take_line       456
  *   bg_send_frame      248
  *   bg_configure         8
@@ -42,8 +44,8 @@ extern "C" {
 #endif
 
 /* The version: major * 10000 + minor * 100 + patch. The major number changes with a promise that a caller may rely on, the minor with a new name. */
-#define BG_VERSION 10000
-#define BG_VERSION_TEXT "1.0.0"
+#define BG_VERSION 10100
+#define BG_VERSION_TEXT "1.1.0"
 
 /* The most stack that a call takes, in bytes. */
 #define BG_STACK 1024
@@ -51,7 +53,7 @@ extern "C" {
 /* What a call returns: done, or the refusal of this number. */
 enum bg_result {
   BG_DONE = 0,
-  BG_IMPOSSIBLE = 1,       /* the slot region or the session record is impossible */
+  BG_IMPOSSIBLE = 1,       /* the slot region, the session record or the collector's record is impossible */
   BG_LINE_TOO_LONG = 2,    /* the line is over 127 bytes */
   BG_NO_FRAME = 3,         /* the line is under 3 bytes, has no marker, or no 0A at its end */
   BG_BAD_TEXT = 4,         /* the line's text is not well-formed Base64 */
@@ -62,9 +64,18 @@ enum bg_result {
   BG_CRC_DIFFERS = 9,      /* the CRC differs */
   BG_WRONG_KIND = 10,      /* not a packet of the kind asked for: a request, or a well-formed reply */
   BG_REPLY_TOO_SHORT = 11, /* the reply buffer is under 32 bytes */
-  BG_UNSENDABLE = 12,      /* what the sender or a writer cannot send */
+  BG_UNSENDABLE = 12,      /* what the sender or a writer cannot send; a lump over 256 bytes */
   BG_NO_SUCH_FRAME = 13    /* the frame number is not below the frame count */
 };
+
+/*
+ * The collector's record: { count, skipping }, and beside it its 126 bytes. All 0 is empty; begin with that. The first count bytes are those of a line that
+ * has begun; what stands behind them is not looked at. Where skipping is not 0 that line is too long, and its bytes are thrown away up to and including
+ * its 0A. A count over 126, or an 0A among the first count bytes, makes the record impossible.
+ */
+#define BG_COLLECTOR 2
+enum bg_collector_number { BG_COLLECTOR_COUNT, BG_COLLECTOR_SKIPPING };
+#define BG_HELD 126
 
 /*
  * The reader's record: { open, total, come, first }. All 0 is idle; begin with that. Where open is 0 the record is idle, and its other numbers are not
@@ -100,10 +111,30 @@ enum bg_reply_number {
   BG_REPLY_TEXT_LENGTH
 };
 
-/* The longest line, which is also the shortest output that bg_send_frame takes; the longest packet; and the shortest reply buffer. */
+/* The longest lump; the longest line, which is also the shortest output that bg_send_frame takes; the longest packet; the shortest reply buffer. */
+#define BG_LUMP 256
 #define BG_LINE 127
 #define BG_PACKET 65533
 #define BG_REPLY_ROOM 32
+
+/*
+ * One step through a lump of bytes, as a driver delivers them, from place `at` on (0 at first): to the end of the next line, or to the lump's end.
+ * Returns 0 with got = { n, place }, n at least 1: the step completed a line; its n bytes, the 0A the last of them, stand at the line array's start, and the
+ * array's other bytes stay; the record is empty, all 0 with its bytes. Go on in the same lump from that place, which is behind the 0A.
+ * Returns 0 with got = { 0, place }: the lump is used up, and place is its length, also where `at` is beyond that. The bytes behind the last 0A are held:
+ * they stand behind those that were held before, and the record's other bytes stay; count grows by as many. With the 127th byte of a line that is not
+ * an 0A the record becomes all 0 with its bytes, but for skipping, which is 1; a record that skips stays. The line array stays.
+ * Returns 2 with got = { 0, place }: a line whose first 127 bytes have no 0A has ended with the 0A before that place; the record is empty, the line array
+ * stays. Go on from that place. A line that is too long is refused once, when its 0A comes.
+ * Refuses 1 for an impossible record, then 12 for a lump over 256 bytes: nothing was taken, and everything stays, got too.
+ * A call that returns 0 or 2 stores skipping as 0 or 1.
+ * Over a row of calls, record and bytes untouched between them, each lump gone through until it is used up: one stream of bytes gives the same lines and
+ * refusals in order, and the same record and bytes at its end, however it was cut into lumps of 0 to 256 bytes. What bg_take_line says to these lines,
+ * with a 2 for each refusal, is from an empty record on what it says to the stream's own lines, cut behind each 0A: so the lines of a body that
+ * bg_send_frame wrote are read back over lumps too.
+ */
+uint32_t bg_collect(uint32_t collector[BG_COLLECTOR], uint8_t held[BG_HELD], const uint8_t *lump, size_t lump_len, size_t at, uint8_t line[BG_LINE],
+                    uint32_t got[2]);
 
 /*
  * Takes one line with its 0A.

@@ -1,7 +1,7 @@
 /*
- * A rack controller on a pseudo-terminal: collects lines, gives them to the reader, its packets to the request
- * call on the controller's memory, and sends the replies' frames. Faults of the line can be injected. All protocol
- * work is done by the calls of belagunthi.h.
+ * A rack controller on a pseudo-terminal: gives the lumps that come to the collector, its lines to the reader, its
+ * packets to the request call on the controller's memory, and sends the replies' frames. Faults of the line can be
+ * injected. All protocol work is done by the calls of belagunthi.h.
  */
 #define _GNU_SOURCE
 #include <errno.h>
@@ -18,13 +18,14 @@
 #include <unistd.h>
 
 #include "belagunthi.h"
+#include "incoming.h"
 #include "line.h"
 
 const char program[] = "controller";
 
 /* How long a byte that goes may wait for room on the line, and a last reply to be fetched; the packets that can be
- * taken; the bytes that are taken at once, and on a line that has a speed. */
-enum { SEND_LIMIT_MS = 500, LINGER_MS = 500, PACKET_LEAST = 8, LUMP = 512, SLOW_LUMP = 64 };
+ * taken; the bytes that are taken at once on a line that has a speed. */
+enum { SEND_LIMIT_MS = 500, LINGER_MS = 500, PACKET_LEAST = 8, SLOW_LUMP = 64 };
 
 /* What the command line says. */
 struct options {
@@ -57,7 +58,7 @@ struct controller {
     uint8_t *packet;
     uint8_t *reply;
     size_t reply_room;
-    struct collector collector;
+    struct incoming in;
     uint32_t reader[BG_READER];
     uint32_t session[BG_SESSION];
     uint8_t tag[BG_TAG];
@@ -323,8 +324,9 @@ static void take_packet(struct controller *c, size_t len)
     }
 }
 
-/* Takes one line that came, unless a fault loses it. */
-static void take_line(struct controller *c, size_t len)
+/* Takes one line that ended, with what the collector said to it, unless a fault loses it; one that was thrown away
+ * has no bytes to damage. */
+static void take_line(struct controller *c, uint32_t refusal)
 {
     uint32_t body = 0;
 
@@ -333,10 +335,12 @@ static void take_line(struct controller *c, size_t len)
         c->dropped++;
         return;
     }
-    damage(c, c->collector.line, len);
-    uint32_t refusal = bg_take_line(c->reader, c->collector.line, len, c->packet, c->options.packet_buffer, &body);
+    if (refusal == 0) {
+        damage(c, c->in.line, c->in.line_len);
+        refusal = bg_take_line(c->reader, c->in.line, c->in.line_len, c->packet, c->options.packet_buffer, &body);
+    }
     if (refusal != 0) {
-        log_refusal(c, "line", refusal, len);
+        log_refusal(c, "line", refusal, c->in.line_len);
     } else if (body > 0) {
         take_packet(c, body);
     }
@@ -351,17 +355,13 @@ static void free_port(const struct controller *c)
     }
 }
 
-/* Takes bytes that came, but for those that an outage swallows. */
-static void take_bytes(struct controller *c, const uint8_t *bytes, size_t len)
+/* Takes the lump that came; an outage swallows it, or what is left of it where the outage begins inside. */
+static void take_lump(struct controller *c)
 {
-    for (size_t i = 0; i < len && !c->ended; i++) {
-        if (c->deaf_until > 0 && now_ms() < c->deaf_until) {
-            continue;
-        }
-        c->deaf_until = 0;
-        size_t line = collect(&c->collector, bytes[i]);
-        if (line > 0) {
-            take_line(c, line);
+    while (c->in.at < c->in.lump_len && !c->ended && now_ms() >= c->deaf_until) {
+        uint32_t refusal = next_line(&c->in);
+        if (c->in.line_len > 0) {
+            take_line(c, refusal);
         }
     }
 }
@@ -372,7 +372,6 @@ static void serve(struct controller *c)
     uint64_t last = now_ms();
 
     while (!c->ended && stop_signal == 0) {
-        uint8_t bytes[LUMP];
         struct pollfd wait = {.fd = c->master, .events = POLLIN};
         uint64_t idle = now_ms() - last;
         if (c->options.idle_ms > 0 && idle >= c->options.idle_ms) {
@@ -387,7 +386,7 @@ static void serve(struct controller *c)
             free_port(c);
             continue;
         }
-        ssize_t come = read(c->master, bytes, c->options.baud > 0 ? SLOW_LUMP : LUMP);
+        ssize_t come = read_lump(&c->in, c->master, c->options.baud > 0 ? SLOW_LUMP : BG_LUMP);
         if (come < 0 && (errno == EAGAIN || errno == EINTR)) {
             continue;
         }
@@ -396,7 +395,7 @@ static void serve(struct controller *c)
         }
         last = now_ms();
         pace(c, (size_t)come);
-        take_bytes(c, bytes, (size_t)come);
+        take_lump(c);
     }
 }
 

@@ -196,10 +196,8 @@ static bool read_port(struct host *h, uint64_t until)
             show_progress(h);
             continue;
         }
-        ssize_t come = read(h->port, h->in, sizeof h->in);
+        ssize_t come = read_lump(&h->in, h->port, BG_LUMP);
         if (come > 0) {
-            h->in_from = 0;
-            h->in_to = (size_t)come;
             return true;
         }
         if (come == 0 || (errno != EAGAIN && errno != EINTR)) {
@@ -276,14 +274,16 @@ static void note_no_reply(struct host *h, uint32_t refusal)
     h->heard.not_replies++;
 }
 
-/* Takes one line that came; true where it completes the reply that is waited for. */
-static bool take_line(struct host *h, size_t len)
+/* Takes one line that ended, with what the collector said to it; true where it completes the reply that is waited
+ * for. */
+static bool take_line(struct host *h, uint32_t refusal)
 {
     uint32_t body = 0;
-    uint32_t refusal =
-        bg_take_line(h->reader, h->collector.line, len, h->answer, sizeof h->answer, &body);
     bool same;
 
+    if (refusal == 0) {
+        refusal = bg_take_line(h->reader, h->in.line, h->in.line_len, h->answer, sizeof h->answer, &body);
+    }
     if (refusal == 0 && body > 0) {
         refusal = bg_read_reply(h->answer, body, h->reply);
     }
@@ -309,12 +309,11 @@ static bool take_line(struct host *h, size_t len)
 static bool wait_reply(struct host *h, uint64_t until)
 {
     for (;;) {
-        while (h->in_from < h->in_to) {
-            uint8_t byte = h->in[h->in_from];
-            h->in_from++;
-            h->heard.bytes++;
-            size_t len = collect(&h->collector, byte);
-            if (len > 0 && take_line(h, len)) {
+        while (h->in.at < h->in.lump_len) {
+            size_t from = h->in.at;
+            uint32_t refusal = next_line(&h->in);
+            h->heard.bytes += h->in.at - from;
+            if (h->in.line_len > 0 && take_line(h, refusal)) {
                 return true;
             }
         }
@@ -476,6 +475,6 @@ void open_port(struct host *h)
     tcflush(h->port, TCIFLUSH);
     until = now_ms() + SETTLE_MS + line_ms(h->baud, BG_LINE);
     while (read_port(h, until)) {
-        h->in_from = h->in_to;
+        h->in.at = h->in.lump_len;
     }
 }

@@ -6,6 +6,7 @@
 #include <termios.h>
 
 #include "belagunthi.h"
+#include "incoming.h"
 #include "line.h"
 
 /* The exit codes besides those of line.h. */
@@ -63,11 +64,8 @@ struct host {
     uint64_t baud;
     uint64_t line_free;
     uint8_t sequence;
-    struct collector collector;
+    struct incoming in;
     uint32_t reader[BG_READER];
-    uint8_t in[4096];
-    size_t in_from;
-    size_t in_to;
     uint8_t packet[BG_PACKET];
     uint32_t packet_len;
     uint8_t answer[BG_PACKET];

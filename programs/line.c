@@ -1,5 +1,5 @@
-/* What the programs share: a raw serial line and its speed, its lines of bytes, waiting with a limit, the end by a
- * signal, and the words for numbers. */
+/* What the programs share: a raw serial line and its speed, waiting with a limit, the end by a signal, and the words
+ * for numbers. */
 #define _GNU_SOURCE
 #include "line.h"
 
@@ -64,27 +64,6 @@ void catch_stops(void)
         }
     }
     signal(SIGPIPE, SIG_IGN);
-}
-
-/* Adds a byte; a line over 127 bytes is handed on once, with its first 128, and its rest is thrown away up to its
- * 0A. */
-size_t collect(struct collector *collector, uint8_t byte)
-{
-    size_t len;
-
-    if (collector->over) {
-        collector->over = byte != 0x0A;
-        return 0;
-    }
-    collector->line[collector->len] = byte;
-    collector->len++;
-    if (byte != 0x0A && collector->len < LINE_ROOM) {
-        return 0;
-    }
-    collector->over = byte != 0x0A;
-    len = collector->len;
-    collector->len = 0;
-    return len;
 }
 
 /* The milliseconds of a clock that never goes back. */
@@ -321,7 +300,7 @@ const char *refusal_words(uint32_t refusal)
 {
     static const char *const words[] = {
         "no refusal",
-        "the slot region or the session record is impossible",
+        "the slot region, the session record or the collector's record is impossible",
         "the line is over 127 bytes",
         "the line is under 3 bytes, has no marker, or no 0A at its end",
         "the line's text is not well-formed Base64",
@@ -332,7 +311,7 @@ const char *refusal_words(uint32_t refusal)
         "the CRC differs",
         "not a packet of the kind asked for",
         "the reply buffer is under 32 bytes",
-        "what the sender or a writer cannot send",
+        "what the sender or a writer cannot send; a lump over 256 bytes",
         "the frame number is not below the frame count",
     };
 

@@ -1,5 +1,5 @@
-/* What the programs share: a raw serial line and its speed, its lines of bytes, waiting with a limit, the end by a
- * signal, and the words for numbers. */
+/* What the programs share: a raw serial line and its speed, waiting with a limit, the end by a signal, and the words
+ * for numbers. */
 #ifndef LINE_H
 #define LINE_H
 
@@ -9,21 +9,11 @@
 #include <stdint.h>
 #include <termios.h>
 
-/* A line is handed on at its 0A, or where it has this many bytes: one more than a frame may have. */
-#define LINE_ROOM 128
-
 /* No wait is longer without a look at stop_signal. */
 #define SLICE_MS 250
 
 /* The exit codes that both programs have; each has its own besides. */
 enum { END_DONE = 0, END_USAGE = 2, END_FILE = 3, END_PORT = 4, END_REFUSED = 7 };
-
-/* Collects bytes to lines; all 0 is empty. */
-struct collector {
-    uint8_t line[LINE_ROOM];
-    size_t len;
-    bool over;
-};
 
 /* What became of bytes that were to be written. */
 enum written { WRITTEN, WRITE_TIME_UP, WRITE_FAILED };
@@ -39,9 +29,6 @@ void keep_standard(void);
 
 /* Lets the signals that ask for the end set stop_signal, unless they are ignored, and ignores broken pipes. */
 void catch_stops(void);
-
-/* Adds a byte; gives the length of the line that now stands in line, or 0 where none has ended. */
-size_t collect(struct collector *collector, uint8_t byte);
 
 /* The milliseconds of a clock that never goes back. */
 uint64_t now_ms(void);

@@ -82,7 +82,12 @@ build_test() {
 
 # Builds the controllers that misbehave.
 build_fake() {
-  build_test fake tests/upload/fake.c programs/line.c "${BG_ARCHIVE:-target/staticlib/libport.a}"
+  build_test fake tests/upload/fake.c programs/incoming.c programs/line.c "${BG_ARCHIVE:-target/staticlib/libport.a}"
+}
+
+# Builds the line that brings every byte by itself.
+build_relay() {
+  build_test relay tests/upload/relay.c programs/line.c
 }
 
 # Waits two seconds at most until a command holds.
@@ -112,7 +117,7 @@ start() {
 # Starts a controller on the memory that is there: 65536 bytes, the slot of 32768 from 16384, and the words given.
 controller_again() {
   start "$programs/controller" --port-file "$work/port" --memory "$work/memory" --memory-size 65536 --slot-start 16384 \
-    --slot-size 32768 --idle 15000 --quiet "$@"
+    --slot-size 32768 --idle 15000 "$@"
 }
 
 # Starts a controller with a new memory.
@@ -125,6 +130,16 @@ controller() {
 fake() {
   rm -f "$work/memory"
   start "$work/fake" "$1" "$work/port" "$work/memory"
+}
+
+# Puts a relay before the port, which brings every byte by itself and prints console lines of so many bytes (0: none) among
+# what goes to the controller; $port is then the relay's.
+relay() {
+  rm -f "$work/relayed"
+  "$work/relay" "$work/relayed" "$port" "$1" &
+  children+=("$!")
+  await test -s "$work/relayed"
+  port=$(cat "$work/relayed" 2>/dev/null)
 }
 
 # Waits two seconds at most until the controller or the fake has ended; adds to $problem where it ended badly.

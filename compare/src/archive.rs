@@ -4,6 +4,15 @@ use crate::call::{Call, Kind, Outcome};
 use crate::room::Room;
 
 extern "C" {
+    fn bg_collect(
+        collector: *mut u32,
+        held: *mut u8,
+        lump: *const u8,
+        lump_len: usize,
+        at: usize,
+        line: *mut u8,
+        got: *mut u32,
+    ) -> u32;
     fn bg_take_line(
         reader: *mut u32,
         line: *const u8,
@@ -194,6 +203,15 @@ pub fn call(call: &Call, place: Place) -> Outcome {
     // SAFETY: every pointer is to as many elements as the header asks for, and no two overlap.
     let returned = unsafe {
         match (call.kind, &mut words[..], &mut buffers[..]) {
+            (Kind::Collect, [collector, got], [held, lump, line]) => bg_collect(
+                collector.pointer(),
+                held.pointer(),
+                lump.pointer(),
+                lump.length,
+                numbers[0] as usize,
+                line.pointer(),
+                got.pointer(),
+            ),
             (Kind::TakeLine, [reader, body], [line, packet]) => bg_take_line(
                 reader.pointer(),
                 line.pointer(),

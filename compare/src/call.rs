@@ -7,6 +7,7 @@ use std::fmt::Write;
 /// The calls of the C header.
 #[derive(Clone, Copy, Debug, PartialEq, Eq)]
 pub enum Kind {
+    Collect,
     TakeLine,
     SendFrame,
     Configure,
@@ -32,6 +33,9 @@ impl Kind {
     /// The names of this call's parameters.
     pub fn shape(self) -> Shape {
         let (name, numbers, words, buffers): (_, &[_], &[_], &[_]) = match self {
+            Kind::Collect => {
+                ("bg_collect", &["at"], &[("collector", 2), ("got", 2)], &["held", "lump", "line"])
+            }
             Kind::TakeLine => ("bg_take_line", &[], &[("reader", 4), ("body", 1)], &["line", "packet"]),
             Kind::SendFrame => ("bg_send_frame", &["k"], &[("sent", 2)], &["body", "out"]),
             Kind::Configure => {
@@ -59,9 +63,9 @@ impl Kind {
         Shape { name, numbers, words, buffers }
     }
 
-    /// Says whether a buffer is the session's tag, which always has 32 bytes.
-    pub fn is_session_tag(self, buffer: usize) -> bool {
-        matches!((self, buffer), (Kind::Configure, 0) | (Kind::Handle, 1))
+    /// Says whether a buffer always has the same length: the session's tag, and the collector's held bytes and line.
+    pub fn is_fixed(self, buffer: usize) -> bool {
+        matches!((self, buffer), (Kind::Configure, 0) | (Kind::Handle, 1) | (Kind::Collect, 0 | 2))
     }
 }
 
@@ -82,6 +86,23 @@ pub struct Outcome {
     pub buffers: Vec<Vec<u8>>,
     /// What the call wrote that it was not lent.
     pub fault: Option<String>,
+}
+
+/// Makes a step through a lump.
+pub fn collect(
+    collector: [u32; 2],
+    held: [u8; 126],
+    lump: Vec<u8>,
+    at: u64,
+    line: [u8; 127],
+    got: [u32; 2],
+) -> Call {
+    Call {
+        kind: Kind::Collect,
+        numbers: vec![at],
+        words: [collector, got].concat(),
+        buffers: vec![held.to_vec(), lump, line.to_vec()],
+    }
 }
 
 /// Takes a line.
@@ -180,6 +201,17 @@ pub fn by_second(call: &Call) -> Outcome {
     let mut words = call.words.clone();
     let mut buffers = call.buffers.clone();
     let returned = match (call.kind, &mut words[..], &mut buffers[..]) {
+        (Kind::Collect, words, [held, lump, line]) => {
+            let (collector, got) = words.split_at_mut(2);
+            port::collect(
+                collector.try_into().unwrap(),
+                held[..].as_mut().try_into().unwrap(),
+                lump,
+                numbers[0] as usize,
+                line[..].as_mut().try_into().unwrap(),
+                got.try_into().unwrap(),
+            )
+        }
         (Kind::TakeLine, [reader @ .., body], [line, packet]) => {
             port::take_line(reader.try_into().unwrap(), line, packet, body)
         }

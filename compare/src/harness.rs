@@ -2,6 +2,7 @@
 
 use crate::archive::Place;
 use crate::call::{compare, show, show_difference, Call, Kind, Outcome};
+use crate::classes;
 use crate::shrink::shrink;
 use std::collections::BTreeMap;
 use std::sync::atomic::{AtomicPtr, AtomicU64, Ordering};
@@ -62,10 +63,15 @@ fn watched(call: &Call, places: &[Place]) -> Result<Outcome, Box<(Outcome, Outco
     answer
 }
 
-/// What a call answered, for the counts: a refusal, or where a request was taken what was done or its rc.
-fn answer_of(call: &Call, outcome: &Outcome) -> (&'static str, &'static str, Option<u32>) {
+/// An answer by the call's name, what it was, and perhaps its number.
+type Answer = (&'static str, &'static str, Option<u32>);
+
+/// What a call answered, for the counts: the classes of the collector's step, a refusal, or where a request was taken what
+/// was done or its rc.
+fn answers_of(call: &Call, outcome: &Outcome) -> Vec<Answer> {
     let name = call.kind.shape().name;
-    match (call.kind, outcome.returned) {
+    let answer = match (call.kind, outcome.returned) {
+        (Kind::Collect, _) => return classes::of(call, outcome).map(|class| (name, class, None)).collect(),
         (Kind::NextSequence, _) => (name, "answered", None),
         (Kind::MostData, 0) => (name, "none", None),
         (Kind::MostData, _) => (name, "some", None),
@@ -79,7 +85,8 @@ fn answer_of(call: &Call, outcome: &Outcome) -> (&'static str, &'static str, Opt
         },
         (_, 0) => (name, "done", None),
         (_, number) => (name, "refused", Some(number)),
-    }
+    };
+    vec![answer]
 }
 
 /// The counts of a run, by kind of input.
@@ -87,7 +94,7 @@ pub struct Harness {
     places: &'static [Place],
     seed: u64,
     counts: Vec<(&'static str, u64)>,
-    answers: BTreeMap<(&'static str, &'static str, Option<u32>), u64>,
+    answers: BTreeMap<Answer, u64>,
     kind: usize,
     began: Instant,
     shown: Instant,
@@ -138,7 +145,9 @@ impl Harness {
         match watched(&call, self.places) {
             Ok(outcome) => {
                 self.counts[self.kind].1 += 1;
-                *self.answers.entry(answer_of(&call, &outcome)).or_default() += 1;
+                for answer in answers_of(&call, &outcome) {
+                    *self.answers.entry(answer).or_default() += 1;
+                }
                 MADE.fetch_add(1, Ordering::Relaxed);
                 outcome
             }
@@ -206,5 +215,12 @@ impl Harness {
             self.seed,
             self.began.elapsed().as_secs_f64()
         );
+    }
+
+    /// Names the classes of the collector's steps that were met less than so many times, each with how often it was.
+    pub fn rare(&self, floor: u64) -> Vec<(&'static str, u64)> {
+        let name = Kind::Collect.shape().name;
+        let met = |class| self.answers.get(&(name, class, None)).copied().unwrap_or(0);
+        classes::names().map(|class| (class, met(class))).filter(|(_, count)| *count < floor).collect()
     }
 }

@@ -3,10 +3,12 @@
 
 mod archive;
 mod call;
+mod classes;
 mod exchange;
 mod guard_check;
 mod harness;
 mod lines;
+mod lumps;
 mod maps;
 mod paper;
 mod replies;
@@ -34,13 +36,16 @@ const HELP: &str = "compare: compares the archive libport.a with the second prog
   --help         this text
 
 Prints progress, then how many comparisons of each kind were made and what they answered. On a difference it prints the
-smallest failing input that it finds, with both answers, and exits with status 1.";
+smallest failing input that it finds, with both answers, and exits with status 1. Where it met a class of the collector's
+steps less than once in a thousand of N, or less than 1000 times where N is more than a million, it exits with status 3.";
 
 /// Makes some comparisons of one kind of input.
 type Generator = fn(&mut Harness, &mut Rng);
 
 /// The generators of random inputs, each with how often it is used.
-const GENERATORS: [(usize, Generator); 9] = [
+const GENERATORS: [(usize, Generator); 11] = [
+    (150, lumps::single),
+    (1, lumps::stream),
     (200, lines::single),
     (6, lines::history),
     (80, sends::single),
@@ -99,4 +104,11 @@ fn main() {
         }
     }
     harness.summary();
+    let rare = harness.rare((count / 1000).min(1000));
+    for (class, met) in &rare {
+        println!("bg_collect: {class}: met {met} times, which is too rarely");
+    }
+    if !rare.is_empty() {
+        std::process::exit(3);
+    }
 }

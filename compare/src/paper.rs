@@ -1,4 +1,4 @@
-//! The cases that the paper and the published vectors name, with what they say of each.
+//! The cases that the paper, the collector's promise and the published vectors name, with what they say of each.
 
 use crate::call::*;
 use crate::harness::Harness;
@@ -182,6 +182,63 @@ fn errors(harness: &mut Harness) {
     }
 }
 
+/// A step on held bytes that are all `x`: record, lump and place; what it returns, record and `got` afterwards, and the
+/// byte that all held ones are then.
+type Step<'a> = ([u32; 2], &'a [u8], u64, u32, [u32; 4], u8);
+
+/// The collector's line, lump, record and place at each edge; a lump's bytes are `x` too, but for 0A.
+fn collector(harness: &mut Harness) {
+    harness.kind("the collector: both sides of each edge");
+    let step =
+        |record, held, lump: &[u8], at| collect(record, held, lump.to_vec(), at, [0xEE; 127], [77, 78]);
+    let steps: [Step; 20] = [
+        ([0, 0], b"\n", 0, 0, [0, 0, 1, 1], 0),
+        ([0, 0], b"x\n\nx", 1, 0, [0, 0, 1, 2], 0),
+        ([125, 0], b"x", 0, 0, [126, 0, 0, 1], b'x'),
+        ([126, 0], b"", 0, 0, [126, 0, 0, 0], b'x'),
+        ([126, 0], b"\nx", 0, 0, [0, 0, 127, 1], 0),
+        ([126, 0], b"x", 0, 0, [0, 1, 0, 1], 0),
+        ([126, 0], b"xx\nx", 0, 2, [0, 0, 0, 3], 0),
+        ([0, 0], &[b'x'; 256], 0, 0, [0, 1, 0, 256], 0),
+        ([0, 0], &[b'x'; 257], 0, 12, [0, 0, 77, 78], b'x'),
+        ([0, 1], b"xx", 0, 0, [0, 1, 0, 2], b'x'),
+        ([2, 7], b"", 0, 0, [2, 1, 0, 0], b'x'),
+        ([2, 7], b"xx", 0, 0, [2, 1, 0, 2], b'x'),
+        ([2, 7], b"x\nx", 0, 2, [0, 0, 0, 2], 0),
+        ([127, 0], b"", 0, 1, [127, 0, 77, 78], b'x'),
+        ([127, 1], b"\n", 0, 1, [127, 1, 77, 78], b'x'),
+        ([127, 0], &[b'x'; 257], 0, 1, [127, 0, 77, 78], b'x'),
+        ([1, 0], b"x\n", 2, 0, [1, 0, 0, 2], b'x'),
+        ([1, 0], b"x\n", 3, 0, [1, 0, 0, 2], b'x'),
+        ([1, 0], b"x\n", 1 << 32, 0, [1, 0, 0, 2], b'x'),
+        ([1, 0], b"x\n", u64::MAX, 0, [1, 0, 0, 2], b'x'),
+    ];
+    for (record, lump, at, returned, words, held) in steps {
+        harness.expect(step(record, [b'x'; 126], lump, at), |outcome| {
+            let mut line = [0xEE; 127];
+            if returned == 0 && words[2] > 0 {
+                line[..words[2] as usize].fill(b'x');
+                line[words[2] as usize - 1] = 0x0A;
+            }
+            outcome.returned == returned
+                && outcome.words == words
+                && outcome.buffers[0] == [held; 126]
+                && outcome.buffers[2] == line
+        });
+    }
+    // An 0A as the last held byte, and as the first behind those.
+    let mut held = [b'x'; 126];
+    held[5] = 0x0A;
+    for lump in [&b""[..], b"\n", &[b'x'; 257]] {
+        harness.expect(step([6, 0], held, lump, 0), |outcome| {
+            outcome.returned == 1 && outcome.words == [6, 0, 77, 78] && outcome.buffers[0] == held
+        });
+    }
+    harness.expect(step([5, 0], held, b"\n", 0), |outcome| {
+        outcome.returned == 0 && outcome.words == [0, 0, 6, 1] && outcome.buffers[2][..7] == *b"xxxxx\n\xEE"
+    });
+}
+
 /// The published vectors of CRC-16/XMODEM, RFC 4648 and RFC 8949, as far as calls can show them.
 fn vectors(harness: &mut Harness) {
     harness.kind("published vectors");
@@ -303,6 +360,7 @@ fn vectors(harness: &mut Harness) {
 pub fn run(harness: &mut Harness) {
     edges(harness);
     errors(harness);
+    collector(harness);
     vectors(harness);
     harness.kind("next sequence, every number");
     for sequence in 0..=255u8 {

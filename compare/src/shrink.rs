@@ -252,9 +252,19 @@ fn together(call: &Call) -> Vec<Call> {
     list
 }
 
+/// A step at a lump's start, through as much of the lump as was left.
+fn from_the_start(call: &Call) -> Vec<Call> {
+    let mut smaller = call.clone();
+    let left = call.buffers[1].iter().skip(call.numbers[0] as usize);
+    smaller.buffers[1] = left.copied().collect();
+    smaller.numbers[0] = 0;
+    vec![smaller]
+}
+
 /// Calls that are somewhat smaller than a call.
 fn candidates(call: &Call) -> Vec<Call> {
     let mut list = match call.kind {
+        Kind::Collect => from_the_start(call),
         Kind::TakeLine => completing(call),
         Kind::Handle => together(call),
         _ => Vec::new(),
@@ -272,7 +282,7 @@ fn candidates(call: &Call) -> Vec<Call> {
             }
             _ => {}
         }
-        if !call.kind.is_session_tag(i) {
+        if !call.kind.is_fixed(i) {
             cuts(buffer).into_iter().for_each(|cut| with_buffer(i, cut));
         }
         plainer(buffer).into_iter().for_each(|plain| with_buffer(i, plain));

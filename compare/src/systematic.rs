@@ -2,8 +2,55 @@
 
 use crate::call::*;
 use crate::harness::Harness;
+use crate::lumps::through;
 use crate::rng::Rng;
 use second::sender;
+
+/// Every count and next byte, every place of an 0A in record and lump, every length of a lump, every cut of a line about
+/// the longest.
+fn lumps(harness: &mut Harness, rng: &mut Rng) {
+    harness.kind("lumps: every count, 0A, length and cut");
+    let mut step = |record, held, lump: &[u8], at| {
+        let line = rng.bytes(127).try_into().unwrap();
+        harness.check(collect(record, held, lump.to_vec(), at, line, [rng.word(), rng.word()]));
+    };
+    for count in 0..=130 {
+        for skipping in [0, 1, 2] {
+            for lump in [&b""[..], b"y", b"\n", b"y\n", b"\ny"] {
+                step([count, skipping], [b'x'; 126], lump, 0);
+            }
+        }
+        for at in 0..126 {
+            let mut held = [b'x'; 126];
+            held[at] = 0x0A;
+            step([count, 0], held, b"y", 0);
+        }
+    }
+    for record in [[0, 0], [1, 0], [125, 0], [126, 0], [127, 0], [0, 1], [126, 1]] {
+        for byte in 0..=255 {
+            step(record, [b'x'; 126], &[byte], 0);
+            let mut lump = [b'y'; 256];
+            lump[byte as usize] = 0x0A;
+            step(record, [b'x'; 126], &lump, 0);
+        }
+        for length in 0..=257 {
+            for lump in [vec![b'y'; length], vec![0x0A; length]] {
+                for at in [0, 1, length.saturating_sub(1), length, length + 1, 1 << 32, usize::MAX] {
+                    step(record, [b'x'; 126], &lump, at as u64);
+                }
+            }
+        }
+    }
+    for before in 120..=135 {
+        let stream = [&vec![b'y'; before][..], b"\nz"].concat();
+        for cut in 0..=stream.len() {
+            let mut collector = ([0; 2], [0; 126]);
+            for lump in [&stream[..cut], &stream[cut..]] {
+                through(harness, rng, &mut collector, lump);
+            }
+        }
+    }
+}
 
 /// Every length of a line for each marker and ending; every character in each place of a group; every last group.
 fn lines(harness: &mut Harness, rng: &mut Rng) {
@@ -372,6 +419,7 @@ fn most(harness: &mut Harness) {
 
 /// Compares all of them.
 pub fn run(harness: &mut Harness, rng: &mut Rng) {
+    lumps(harness, rng);
     lines(harness, rng);
     sends(harness, rng);
     maps(harness, rng);

@@ -5,6 +5,7 @@
 
 pub mod base64;
 pub mod cbor;
+pub mod collector;
 pub mod controller;
 pub mod crc;
 pub mod host;

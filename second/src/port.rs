@@ -1,5 +1,7 @@
-//! The calls with the C header's parameters: each returns 0 or the number of a refusal, and fills its out-parameters at 0 only.
+//! The calls with the C header's parameters: each returns 0 or the number of a refusal, and fills its out-parameters at 0
+//! only, but for [`collect`], which fills them at 2 too.
 
+use crate::collector::{self, Step};
 use crate::reader::{self, Taken};
 use crate::refusal::Refusal;
 use crate::{controller, host, sender, slot};
@@ -10,6 +12,29 @@ fn number<T>(answer: Result<T, Refusal>, fill: impl FnOnce(T)) -> u32 {
         Ok(value) => {
             fill(value);
             0
+        }
+        Err(refusal) => refusal.number(),
+    }
+}
+
+/// Goes through a lump to the next 0A or its end; `got` is the completed line's length, or 0, and the place to go on from.
+pub fn collect(
+    record: &mut [u32; 2],
+    held: &mut [u8; 126],
+    lump: &[u8],
+    at: usize,
+    line: &mut [u8; 127],
+    got: &mut [u32; 2],
+) -> u32 {
+    match collector::collect(record, held, lump, at, line) {
+        Ok((step, place)) => {
+            let (returned, length) = match step {
+                Step::UsedUp => (0, 0),
+                Step::Line(length) => (0, length as u32),
+                Step::TooLong => (Refusal::LineTooLong.number(), 0),
+            };
+            *got = [length, place as u32];
+            returned
         }
         Err(refusal) => refusal.number(),
     }

@@ -588,7 +588,8 @@ fn replies() {
 #[test]
 fn most_data() {
     // Past offset 0: 18 bytes, the heads of the data and of the offset, and the data.
-    let later = [(20, 0), (21, 1), (43, 23), (44, 23), (45, 24), (276, 255), (277, 255), (278, 256), (512, 490)];
+    let later =
+        [(20, 0), (21, 1), (43, 23), (44, 23), (45, 24), (276, 255), (277, 255), (278, 256), (512, 490)];
     for (room, most) in later {
         assert_eq!(port::most_data(room, 23, 0, 7), most, "{room}");
     }

@@ -25,6 +25,43 @@ static int same(const void *bytes, const void *wanted, size_t len)
     return memcmp(bytes, wanted, len) == 0;
 }
 
+/* Collects a line from two lumps and one that is too long from one, and what a collector refuses. */
+static void check_collector(void)
+{
+    const uint8_t empty[BG_HELD] = {0};
+    uint8_t held[BG_HELD] = {0};
+    uint8_t lump[BG_LUMP + 1];
+    uint8_t line[BG_LINE];
+    uint32_t collector[BG_COLLECTOR] = {0, 0};
+    uint32_t got[2] = {7, 7};
+
+    memset(line, 0xEE, sizeof line);
+    check(bg_collect(collector, held, (const uint8_t *)"ab", 2, 0, line, got) == 0, "a lump without an 0A is taken");
+    check(got[0] == 0 && got[1] == 2 && collector[BG_COLLECTOR_COUNT] == 2 && same(held, "ab", 3) && line[0] == 0xEE,
+          "its bytes are held");
+    check(bg_collect(collector, held, (const uint8_t *)"c\nd", 3, 0, line, got) == 0, "a lump with an 0A is taken");
+    check(got[0] == 4 && got[1] == 2 && same(line, "abc\n\356", 5), "the line of both lumps");
+    check(collector[BG_COLLECTOR_COUNT] == 0 && same(held, empty, BG_HELD), "the collector is empty behind its line");
+    check(bg_collect(collector, held, (const uint8_t *)"c\nd", 3, 2, line, got) == 0 && got[0] == 0 && got[1] == 3
+              && held[0] == 'd',
+          "the lump's other bytes are held");
+
+    memset(lump, 'x', sizeof lump);
+    check(bg_collect(collector, held, lump, BG_LUMP + 1, 0, line, got) == 12, "a lump of 257 bytes is refused 12");
+    check(got[1] == 3 && collector[BG_COLLECTOR_COUNT] == 1 && held[1] == 0, "a refused lump leaves all");
+    check(bg_collect(collector, held, lump, BG_LUMP, 0, line, got) == 0 && collector[BG_COLLECTOR_SKIPPING] == 1
+              && collector[BG_COLLECTOR_COUNT] == 0 && same(held, empty, BG_HELD),
+          "a line that is too long is skipped");
+    check(bg_collect(collector, held, NULL, 0, 0, line, got) == 0 && got[1] == 0 && collector[BG_COLLECTOR_SKIPPING] == 1,
+          "an empty lump changes nothing");
+    check(bg_collect(collector, held, (const uint8_t *)"x\nd", 3, 0, line, got) == 2 && got[0] == 0 && got[1] == 2
+              && collector[BG_COLLECTOR_SKIPPING] == 0 && line[0] == 'a',
+          "its 0A is refused 2");
+    collector[BG_COLLECTOR_COUNT] = BG_HELD + 1;
+    check(bg_collect(collector, held, lump, BG_LUMP + 1, 0, line, got) == 1 && got[1] == 2,
+          "a record of 127 held bytes is refused 1");
+}
+
 /* Sends a body of eight zero bytes, and refuses what cannot be sent. */
 static void check_sender(void)
 {
@@ -197,6 +234,7 @@ static void check_replies(void)
 /* Runs the checks. */
 int main(void)
 {
+    check_collector();
     check_sender();
     check_reader();
     check_controller();

@@ -14,8 +14,9 @@ static ucontext_t here, there;
 static void (*job)(void);
 
 static uint8_t memory[8192], packet[1024], reply[1024], line[128], body[900], out[1024], tag[32];
-static uint32_t reader[4], session[4], numbers[12], size;
-static size_t line_len, packet_len, reply_len;
+static uint8_t held[BG_HELD], lump[BG_LUMP];
+static uint32_t collector[BG_COLLECTOR], reader[4], session[4], numbers[12], size;
+static size_t lump_len, line_len, packet_len, reply_len;
 
 /* Runs the job on the painted stack. */
 static void enter(void) {
@@ -26,7 +27,11 @@ static void enter(void) {
 static void nothing(void) {
 }
 
-/* The calls, each on an input that it answers: a first frame, a last frame, an upload that starts a session, and so on. */
+/* The calls, each on an input that it answers: a lump that is held, a first frame, a last frame, an upload that starts a session, and so on. */
+static void collect(void) {
+    bg_collect(collector, held, lump, lump_len, 0, line, numbers);
+}
+
 static void take_line(void) {
     bg_take_line(reader, line, line_len, packet, sizeof packet, &size);
 }
@@ -113,6 +118,21 @@ int main(void) {
         fine &= k + 1 < numbers[1] ? (take_line(), 1) : within("bg_take_line, last", take_line, base);
     }
     if (size != sizeof body) {
+        return 2;
+    }
+    /* Behind calls that use memcpy: finding it for the first time takes stack of its own. */
+    memset(lump, 7, sizeof lump);
+    lump_len = BG_HELD;
+    fine &= within("bg_collect, held", collect, base);
+    lump[0] = '\n';
+    fine &= within("bg_collect, line", collect, base);
+    if (numbers[0] != BG_LINE) {
+        return 2;
+    }
+    lump[0] = 7;
+    lump_len = BG_LUMP;
+    fine &= within("bg_collect, skips", collect, base);
+    if (collector[BG_COLLECTOR_SKIPPING] != 1) {
         return 2;
     }
     fine &= within("bg_send_frame", send_frame, base);

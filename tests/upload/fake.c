@@ -10,6 +10,7 @@
 #include <unistd.h>
 
 #include "belagunthi.h"
+#include "incoming.h"
 #include "line.h"
 
 const char program[] = "fake";
@@ -152,11 +153,29 @@ static bool answer_late(struct fake *f, const char *mode, size_t len)
     return false;
 }
 
+/* Sends a reply of one frame in one piece with a console line before it, which is too long by a byte. */
+static void send_after_long_line(struct fake *f, uint32_t len)
+{
+    uint8_t piece[BG_LINE + 1 + BG_LINE];
+    uint32_t sent[2] = {0, 1};
+
+    memset(piece, 'x', BG_LINE);
+    piece[BG_LINE] = 0x0A;
+    if (bg_send_frame(f->reply, len, 0, piece + BG_LINE + 1, BG_LINE, sent) != 0 || sent[1] != 1) {
+        fail("the reply is not one frame");
+    }
+    write_all(f->master, piece, BG_LINE + 1 + sent[0], 200);
+}
+
 /* Sends a right reply, after others or changed as the mode says. */
 static void send_reply(struct fake *f, const char *mode, uint32_t len)
 {
     uint8_t right = f->reply[6];
 
+    if (strcmp(mode, "long-line") == 0) {
+        send_after_long_line(f, len);
+        return;
+    }
     if (strcmp(mode, "other-sequence") == 0) {
         f->reply[6] = bg_next_sequence(right);
     }
@@ -220,7 +239,7 @@ static bool answer(struct fake *f, const char *mode, size_t len)
 /* Serves in one mode until the fake's life is over or it hangs up. */
 int main(int argc, char **argv)
 {
-    static struct collector collector;
+    static struct incoming in;
     static uint32_t reader[BG_READER];
     uint64_t until = now_ms() + LIFE_MS;
     struct fake *f = &fake;
@@ -238,7 +257,6 @@ int main(int argc, char **argv)
         fail("cannot open a port");
     }
     while (now_ms() < until) {
-        uint8_t bytes[512];
         struct pollfd wait = {.fd = f->master, .events = POLLIN};
         if (strcmp(argv[1], "deaf") == 0) {
             poll(NULL, 0, 100);
@@ -248,12 +266,11 @@ int main(int argc, char **argv)
             write_all(f->master, (const uint8_t *)"babble babble babble\n", 21, 1);
         }
         poll(&wait, 1, 1);
-        ssize_t come = read(f->master, bytes, sizeof bytes);
-        for (ssize_t i = 0; i < come; i++) {
+        read_lump(&in, f->master, BG_LUMP);
+        while (in.at < in.lump_len) {
             uint32_t body = 0;
-            size_t len = collect(&collector, bytes[i]);
-            if (len == 0 || bg_take_line(reader, collector.line, len, f->packet, PACKET, &body) != 0 ||
-                body == 0) {
+            if (next_line(&in) != 0 || in.line_len == 0 ||
+                bg_take_line(reader, in.line, in.line_len, f->packet, PACKET, &body) != 0 || body == 0) {
                 continue;
             }
             if (strcmp(argv[1], "babbling") != 0 && !answer(f, argv[1], body)) {

@@ -1,5 +1,5 @@
-/* What needs no archive: the published vectors of SHA-256 (FIPS 180-4's examples), the line collector on lines about
- * its limit, rows of progress for every width, escaped texts, numbers and speeds. */
+/* What needs no archive: the published vectors of SHA-256 (FIPS 180-4's examples), rows of progress for every width,
+ * escaped texts, numbers and speeds. */
 #include <stdio.h>
 #include <stdlib.h>
 #include <string.h>
@@ -24,27 +24,6 @@ static int differs(const char *name, const uint8_t *bytes, size_t len, const cha
         return 0;
     }
     printf("SHA-256 of %s: %s, not %s\n", name, hex, wanted);
-    return 1;
-}
-
-/* Collects a line of len bytes with its 0A, then a short one; gives 1 where they are not handed on as they have to
- * be. */
-static int collects_badly(size_t len)
-{
-    struct collector collector = {.len = 0};
-    size_t wanted = len > LINE_ROOM ? LINE_ROOM : len;
-    size_t lines = 0;
-    size_t first = 0;
-
-    for (size_t i = 0; i < len; i++) {
-        size_t got = collect(&collector, i + 1 == len ? 0x0A : 'x');
-        lines += got > 0;
-        first = got > 0 ? got : first;
-    }
-    if (lines == 1 && first == wanted && collect(&collector, 'y') == 0 && collect(&collector, 0x0A) == 2) {
-        return 0;
-    }
-    printf("a line of %zu bytes: %zu lines, the last of %zu bytes\n", len, lines, first);
     return 1;
 }
 
@@ -145,9 +124,6 @@ int main(void)
     bad += differs("a million a", million, 1000000,
                    "cdc76e5c9914fb9281a1c7e284d73e67f1809a48a497200e046d39ccc7112cd0");
     free(million);
-    for (size_t len = 1; len < 400; len++) {
-        bad += collects_badly(len);
-    }
     for (size_t columns = 0; columns < PROGRESS_ROOM; columns++) {
         bad += shows_badly(columns);
     }

@@ -27,6 +27,8 @@ struct World {
     slot_size: usize,
     body_size: usize,
     leave_last: usize,
+    lump_size: usize,
+    step_count: usize,
     lines: Vec<u8>,
     line_lens: Vec<u32>,
     line_count: usize,
@@ -101,6 +103,29 @@ fn run_send(w: &mut World) {
             k += 1;
         }
         at += length;
+    }
+}
+
+/// Goes through every lump of the stream, and keeps each line.
+fn run_collect(w: &mut World) {
+    let mut record = [0; 2];
+    let mut held = [0; LINE - 1];
+    let mut got = [0; 2];
+    w.line_count = 0;
+    w.step_count = 0;
+    for lump in w.out[..w.out_len].chunks(w.lump_size) {
+        let mut at = 0;
+        while at < lump.len() {
+            let to = w.line_count * STRIDE;
+            let line = w.lines[to..to + LINE].as_mut().try_into().expect("a line's room");
+            if port::collect(&mut record, &mut held, lump, at, line, &mut got) != 0 {
+                fail("a lump was refused");
+            }
+            w.line_lens[w.line_count] = got[0];
+            w.line_count += (got[0] > 0) as usize;
+            w.step_count += 1;
+            at = got[1] as usize;
+        }
     }
 }
 
@@ -245,6 +270,19 @@ fn upload(w: &mut World, framed: bool) {
 /// One whole upload over the line.
 fn run_upload(w: &mut World) {
     upload(w, true)
+}
+
+/// Joins the lines of every body to one stream in the output, and clears them.
+fn make_stream(w: &mut World) {
+    run_send(w);
+    w.out_len = 0;
+    for i in 0..w.line_count {
+        let length = w.line_lens[i] as usize;
+        let line = &mut w.lines[i * STRIDE..(i + 1) * STRIDE];
+        w.out[w.out_len..w.out_len + length].copy_from_slice(&line[..length]);
+        w.out_len += length;
+        line.fill(0);
+    }
 }
 
 /// Records the requests and replies of an upload.
@@ -406,6 +444,12 @@ fn sent_lines(w: &World) -> Produced {
     Produced { digest, bytes: w.image.len(), calls: w.line_count, framed }
 }
 
+/// What was collected: the lines again.
+fn collected_lines(w: &World) -> Produced {
+    let digest = digest_all(&w.lines, &w.line_lens[..w.line_count], STRIDE);
+    Produced { digest, bytes: w.out_len, calls: w.step_count, framed: 0 }
+}
+
 /// What was read: the bodies; or, without the last frames, what stands of the last long one.
 fn read_bodies(w: &World) -> Produced {
     let open = w.leave_last == 1;
@@ -474,35 +518,39 @@ fn measured(run: fn(&mut World), w: &mut World) {
     compiler_fence(Ordering::SeqCst);
 }
 
-/// A path: what is made before, one round, what it produced; the bodies' length, and whether the last frames are left out.
-type Path = (fn(&mut World), fn(&mut World), fn(&World) -> Produced, usize, usize);
+/// A path: what is made before, one round, what it produced; the bodies' length, whether the last frames are left out, and the lumps' length.
+type Path = (fn(&mut World), fn(&mut World), fn(&World) -> Produced, usize, usize, usize);
 
 /// The path of this name.
 fn path_of(name: &str) -> Path {
     match name {
-        "send" => (make_nothing, run_send, sent_lines, BODY, 0),
-        "sendlong" => (make_nothing, run_send, sent_lines, LONGEST, 0),
-        "sendlong-open" => (make_nothing, run_send, sent_lines, LONGEST, 1),
-        "read" => (run_send, run_read, read_bodies, BODY, 0),
-        "readlong" => (run_send, run_read, read_bodies, LONGEST, 0),
-        "readlong-open" => (run_send, run_read, read_bodies, LONGEST, 1),
-        "crc" => (make_nothing, run_crc, computed_crcs, BODY, 0),
-        "reply" => (make_upload, run_reply, read_replies, 0, 0),
-        "echo" => (make_echo_replies, run_reply, read_replies, 0, 0),
-        "pairs" => (make_pairs, run_reply, read_replies, 0, 0),
-        "handle" => (make_echoes, run_handle, answered, 0, 0),
-        "chunks" => (make_chunks, run_handle, answered, 0, 0),
-        "unknown" => (make_unknown, run_handle, answered, 0, 0),
-        "erase" => (make_erases, run_handle, erased, 0, 0),
-        "frames" => (make_upload, run_frames, passed, 0, 0),
-        "upload" => (make_nothing, run_upload, uploaded, 0, 0),
-        _ if name.starts_with("fill-") => (make_fill, run_handle, answered, 0, 0),
+        "send" => (make_nothing, run_send, sent_lines, BODY, 0, 0),
+        "sendlong" => (make_nothing, run_send, sent_lines, LONGEST, 0, 0),
+        "sendlong-open" => (make_nothing, run_send, sent_lines, LONGEST, 1, 0),
+        "collect256" => (make_stream, run_collect, collected_lines, BODY, 0, 256),
+        "collect64" => (make_stream, run_collect, collected_lines, BODY, 0, 64),
+        "collect16" => (make_stream, run_collect, collected_lines, BODY, 0, 16),
+        "collect1" => (make_stream, run_collect, collected_lines, BODY, 0, 1),
+        "read" => (run_send, run_read, read_bodies, BODY, 0, 0),
+        "readlong" => (run_send, run_read, read_bodies, LONGEST, 0, 0),
+        "readlong-open" => (run_send, run_read, read_bodies, LONGEST, 1, 0),
+        "crc" => (make_nothing, run_crc, computed_crcs, BODY, 0, 0),
+        "reply" => (make_upload, run_reply, read_replies, 0, 0, 0),
+        "echo" => (make_echo_replies, run_reply, read_replies, 0, 0, 0),
+        "pairs" => (make_pairs, run_reply, read_replies, 0, 0, 0),
+        "handle" => (make_echoes, run_handle, answered, 0, 0, 0),
+        "chunks" => (make_chunks, run_handle, answered, 0, 0, 0),
+        "unknown" => (make_unknown, run_handle, answered, 0, 0, 0),
+        "erase" => (make_erases, run_handle, erased, 0, 0, 0),
+        "frames" => (make_upload, run_frames, passed, 0, 0, 0),
+        "upload" => (make_nothing, run_upload, uploaded, 0, 0, 0),
+        _ if name.starts_with("fill-") => (make_fill, run_handle, answered, 0, 0, 0),
         _ => fail("no such path"),
     }
 }
 
 /// The buffers, touched before they are measured, and the image of a fixed seed.
-fn set_up(size: usize, body_size: usize, leave_last: usize, family: &str) -> World {
+fn set_up(size: usize, body_size: usize, leave_last: usize, lump_size: usize, family: &str) -> World {
     let packets = size / DATA + MAPS + 1;
     let mut state: u64 = 88_172_645_463_325_252;
     let mut next = || {
@@ -517,6 +565,8 @@ fn set_up(size: usize, body_size: usize, leave_last: usize, family: &str) -> Wor
         slot_size: size,
         body_size,
         leave_last,
+        lump_size,
+        step_count: 0,
         lines: touched((size / 64 + 16) * STRIDE),
         line_lens: vec![1; size / 64 + 16],
         line_count: 0,
@@ -547,8 +597,9 @@ fn main() {
         fail("usage: bench PATH KIB ROUNDS");
     }
     let number = |word: &str| word.parse::<usize>().unwrap_or_else(|_| fail("KIB and ROUNDS are numbers"));
-    let (make, run, produced, body_size, leave_last) = path_of(&words[1]);
-    let mut w = set_up(number(&words[2]) * 1024, body_size, leave_last, words[1].trim_start_matches("fill-"));
+    let (make, run, produced, body_size, leave_last, lump_size) = path_of(&words[1]);
+    let family = words[1].trim_start_matches("fill-");
+    let mut w = set_up(number(&words[2]) * 1024, body_size, leave_last, lump_size, family);
     make(&mut w);
     let mut best = u128::MAX;
     for _ in 0..number(&words[3]) {

@@ -1,15 +1,13 @@
 -- Lumps for a caller in C: each call goes on as a step of the collector does, and what it stores is read back by the next.
 -- Assumes nothing.
 use mathlib.Core.Path.{_≡_, refl, sym, ap, ap₂, subst, _∙_}
-use Prim.Native.Nat.{ℕ, _+_, _≤_, _<_}
+use Prim.Native.Nat.{ℕ, _+_, _≤_}
 use native.Mathlib.Omega.{arith}
-use mathlib.Core.Bool.{Bool, true, false}
 use mathlib.Core.List.{List, [], _∷_, _++_}
 use lib.ListN.{length, getD, take, drop}
 use Rattle.laws.specs.Choice.{pick}
 use Rattle.laws.specs.Bytes.{pasted}
 use Rattle.collector.specs.declared.Collector.{Collector}
-use Rattle.collector.specs.Collector as collecting
 use Rattle.collector.specs.Collector.{longestLump, before, empty, longer, Handed, line, refused, tooLong, lineOf, usedUp, refusing, Outcome, collect}
 use Rattle.collector.specs.Lumps as lumping
 use Rattle.collector.specs.Lumps.{Steps, Lumps, Possible, joined, stream}
@@ -19,12 +17,12 @@ use Rattle.reader.specs.declared.Reader.{Reader}
 use Rattle.reader.specs.Reader as reading
 use Rattle.reader.specs.Lines as reader-lines
 use Rattle.roundtrip.specs.Lumped.{hear}
-use Rattle.roundtrip.proofs.Lumped.{lumped-round-trip}
+use Rattle.roundtrip.proofs.Lumped.{lumps-heard, lumped-round-trip}
 use Rattle.port.specs.Records.{collectorNumbers, collectorOf, readerOf}
-use Rattle.port.specs.Calls.{CollectedC, stepResult, stepLength, wentOn, collectedBy, collectedC, TookLine, tookLine}
+use Rattle.port.specs.Calls.{CollectedC, stepResult, stepLength, collectedBy, collectedC, TookLine, tookLine}
 use Rattle.caller.specs.Lines as row-lines
 use Rattle.caller.specs.Lines.{runIn}
-use Rattle.caller.specs.Lumps.{Calls, over, lined, long, Lumped, none, next, CallerLumps, hearing, RowHears, CallerLumpedRoundTrip}
+use Rattle.caller.specs.Lumps.{Calls, over, lined, long, Lumped, none, next, CallerLumps, hearing, RowHears, CallerHears, CallerLumpedRoundTrip}
 use Rattle.caller.proofs.Records.{collector-back}
 use Rattle.caller.proofs.Lines.{one-line}
 
@@ -166,14 +164,17 @@ lumped-went r held lumps hs r′ held′ (next {r′ = r1} {held′ = h1} {lump 
     by-lump c lump rest hs1 ks r1 h1 r′ held′ p short (calls-went r held lump 0 hs1 r1 h1 calls c er eh p short)
     (λ d er2 eh2 q. lumped-went r1 h1 rest ks r′ held′ more d er2 eh2 q)
 
-by-all : (c : Collector) (lumps : List (List ℕ)) (hs : List Handed) (r held : List ℕ) → Possible c → WentAll c lumps hs r held
-    → (hs ≡ stream c (joined lumps) .handed) × (r ≡ collectorNumbers (stream c (joined lumps) .collector)) × (held ≡ stream c (joined lumps) .collector .held)
-by-all c lumps hs r held p (went-all d given er eh) =
-    let w = lumps-give c lumps hs d p given in
-    (w .0, er ∙ ap collectorNumbers (w .1), eh ∙ ap (λ (x : Collector). x .held) (w .1))
+-- what holds of the steps holds of the calls
+by-steps : (c : Collector) (lumps : List (List ℕ)) (hs : List Handed) (r held : List ℕ) (P : Type 0)
+    → ((d : Collector) → Lumps c lumps hs d → r ≡ collectorNumbers d → held ≡ d .held → P) → WentAll c lumps hs r held → P
+by-steps c lumps hs r held P f (went-all d given er eh) = f d given er eh
 
 pub caller-lumps : CallerLumps
-caller-lumps c lumps hs r held p given = by-all c lumps hs r held p (lumped-went _ _ lumps hs r held given c refl refl p)
+caller-lumps c lumps hs r held p given =
+    by-steps c lumps hs r held _
+    (λ d steps er eh. let w = lumps-give c lumps hs d p steps in
+    (w .0, er ∙ ap collectorNumbers (w .1), eh ∙ ap (λ (x : Collector). x .held) (w .1)))
+    (lumped-went _ _ lumps hs r held given c refl refl p)
 
 -- what is said to what was handed on is what the reader says
 pub row-hears : RowHears
@@ -187,15 +188,14 @@ row-hears (line l ∷ hs) r p b =
     ∙ ap₂ (λ (k : Reader) (q : List ℕ). reader-lines.saying (o .says) (hear hs k q)) (m .reader) (m .packet)
 row-hears (refused n ∷ hs) r p b = ap (λ (x : reader-lines.Run). reader-lines.saying (reading.refused n) x) (row-hears hs r p b)
 
-by-lines : (lumps : List (List ℕ)) (hs : List Handed) (r held : List ℕ) (run back : reader-lines.Run)
-    → ((d : Collector) → Lumps empty lumps hs d → (run ≡ back) × (d ≡ empty)) → WentAll empty lumps hs r held
-    → (run ≡ back) × (r ≡ collectorNumbers empty) × (held ≡ empty .held)
-by-lines lumps hs r held run back f (went-all d given er eh) =
-    let w = f d given in
-    (w .0, er ∙ ap collectorNumbers (w .1), eh ∙ ap (λ (x : Collector). x .held) (w .1))
+pub caller-hears : CallerHears
+caller-hears r p b lumps hs record-after held given =
+    by-steps empty lumps hs record-after held _ (λ d steps er eh. row-hears hs r p b ∙ lumps-heard lumps hs d (readerOf r) p steps)
+    (lumped-went _ _ lumps hs record-after held given empty refl refl possible-empty)
 
 pub caller-lumped-round-trip : CallerLumpedRoundTrip
 caller-lumped-round-trip s r p b lines says lumps hs record-after held bytes least most room amid whole same given =
-    by-lines lumps hs record-after held (runIn (hearing hs r p b)) _
-    (λ d all. let w = lumped-round-trip s p (readerOf r) lines says lumps hs d bytes least most room amid whole same all in (row-hears hs r p b ∙ w .0, w .1))
+    by-steps empty lumps hs record-after held _
+    (λ d steps er eh. let w = lumped-round-trip s p (readerOf r) lines says lumps hs d bytes least most room amid whole same steps in
+    (row-hears hs r p b ∙ w .0, er ∙ ap collectorNumbers (w .1), eh ∙ ap (λ (x : Collector). x .held) (w .1)))
     (lumped-went _ _ lumps hs record-after held given empty refl refl possible-empty)

@@ -5,13 +5,10 @@ use mathlib.Core.Bool.{Bool, true, false}
 use borrow.Author.Tests.{le-ltb}
 use native.Mathlib.Omega.{arith}
 use Rattle.laws.specs.Choice.{pick}
-use Rattle.laws.proofs.Choice.{pick-yes, pick-no}
-use Rattle.reader.specs.declared.Reader.{Reader}
 use Rattle.reader.specs.declared.Reader.the-variants.{Idle, Open}
-use Rattle.slot.specs.declared.Session.{Session}
 use Rattle.map.specs.Fields.{flagNumber}
 use Rattle.port.specs.Records.{flagOf, collectorNumbers, readerFrom, readerNumbers, sessionNumbers}
-use Rattle.caller.specs.Records.{CollectorBack, SessionBack, FirstByte, ReaderBack}
+use Rattle.caller.specs.Records.{CollectorBack, SessionBack, ReaderBack}
 
 -- a flag that was stored is read back
 flag-back : (b : Bool) → flagOf (flagNumber b) ≡ b

@@ -8,13 +8,13 @@ use Rattle.laws.specs.Bytes.{Bytes}
 use Rattle.frame.specs.Line.{longest}
 use Rattle.collector.specs.declared.Collector.{Collector}
 use Rattle.collector.specs.Collector.{longestLump, empty, Handed, line, refused, tooLong}
-use Rattle.collector.specs.Lumps.{stream, Possible, joined}
+use Rattle.collector.specs.Lumps.{cut, stream, Possible, joined}
 use Rattle.reader.specs.Reader as reading
-use Rattle.reader.specs.Lines.{Amid}
+use Rattle.reader.specs.Lines.{feed, Amid}
 use Rattle.roundtrip.specs.RoundTrip.{frames, answers, readBack}
-use Rattle.roundtrip.specs.Lumped.{hear, Whole}
+use Rattle.roundtrip.specs.Lumped.{hear, linesIn, Whole}
 use Rattle.port.specs.Records.{collectorNumbers, readerOf}
-use Rattle.port.specs.Calls.{CollectedC, collectedC, TookLine, tookLine}
+use Rattle.port.specs.Calls.{collectedC, TookLine, tookLine}
 use Rattle.caller.specs.Lines.{saidOf, Row, saying, runIn}
 
 -- a caller's calls through one lump from a place on, with any line arrays and numbers lent: he goes on from got[1] after a 0 with a line and after a
@@ -58,6 +58,13 @@ hearing (refused n ∷ hs) r p b = saying (reading.refused n) (hearing hs r p b)
 -- it is what the reader says, from any record and numbers at first
 abbrev pub RowHears : Type 0
 RowHears = (hs : List Handed) (r p : List ℕ) (b : ℕ) → runIn (hearing hs r p b) ≡ hear hs (readerOf r) p
+
+-- to a stream that comes in lumps, from an empty record on, it is what the reader says to the stream's own lines, however long they are
+abbrev pub CallerHears : Type 0
+CallerHears =
+    (r p : List ℕ) (b : ℕ) (lumps : List (List ℕ)) (hs : List Handed) (record-after held : List ℕ)
+    → Lumped (collectorNumbers empty) (empty .held) lumps hs record-after held
+    → runIn (hearing hs r p b) ≡ feed (linesIn (cut (joined lumps))) (readerOf r) p
 
 -- a body's lines, with noise anywhere among them, sent as one stream that is lumped anyhow, are read back; and the collector is then empty
 abbrev pub CallerLumpedRoundTrip : Type 0

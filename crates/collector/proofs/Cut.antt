@@ -1,28 +1,26 @@
 -- Laws of a stream cut at each 0A, and of bytes that come on top of those that a record holds.
 -- Assumes nothing.
-use mathlib.Core.Path.{_≡_, refl, sym, ap, ap₂, _∙_}
-use Prim.Native.Nat.{ℕ, zero, suc, _+_, _≤_, _<_}
-use native.Mathlib.Numerals.{add-one}
-use native.Mathlib.Nat.{add-zero, zero-add}
+use mathlib.Core.Path.{_≡_, refl, sym, ap, _∙_}
+use Prim.Native.Nat.{ℕ, suc, _+_, _≤_, _<_}
+use native.Mathlib.Nat.{zero-add}
 use native.Mathlib.Omega.{arith}
 use native.Mathlib.Decide.{decLe}
-use mathlib.Core.Bool.{Bool, true, false, false≢true}
+use mathlib.Core.Bool.{Bool, true, false}
 use mathlib.Core.List.{List, [], _∷_, _++_, append-assoc, append-nil}
-use lib.Dec.{ltb, eqb}
-use borrow.Author.Tests.{lt-ltb, le-ltb, ltb-true, ltb-false, eqb-true}
-use lib.ListN.{length, take, drop, length-append, length-take}
+use lib.Dec.{eqb}
+use borrow.Author.Tests.{le-ltb, ltb-false, eqb-true}
+use lib.ListN.{length, take, drop, length-append}
 use Rattle.laws.specs.Choice.{pick}
 use Rattle.laws.specs.Bytes.{pasted}
 use Rattle.laws.proofs.Choice.{pick-yes, pick-no}
 use Rattle.laws.proofs.Lists.{pasted-length, pasted-take, pasted-twice}
 use Rattle.bytes.specs.Bytes.{indexAfter, indexOf}
-use Rattle.frame.specs.Line.{longest, newline}
+use Rattle.frame.specs.Line.{newline}
 use Rattle.collector.specs.declared.Collector.{Collector}
-use Rattle.collector.specs.Collector.{most, before, hasNewline, heldOf, impossible, empty, skips, longer, Handed, line, tooLong, ended}
-use Rattle.collector.specs.Lumps.{onto, cut, Gathered, handing, gathered, stream, Possible}
+use Rattle.collector.specs.Collector.{most, before, hasNewline, heldOf, impossible, empty, skips, longer, line, ended}
+use Rattle.collector.specs.Lumps.{onto, cut, handing, gathered, stream, Possible}
 use Rattle.collector.proofs.Laws.{
   before-le,
-  held-length,
   longer-skipping,
   longer-over,
   longer-held,

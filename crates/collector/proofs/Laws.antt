@@ -1,7 +1,7 @@
 -- What the collector's definitions give on each way of their tests.
 -- Assumes nothing.
 use mathlib.Core.Path.{_≡_, refl, sym, ap, ap₂, _∙_}
-use Prim.Native.Nat.{ℕ, zero, suc, _+_, _-_, _≤_, _<_}
+use Prim.Native.Nat.{ℕ, _+_, _-_, _≤_, _<_}
 use native.Mathlib.Nat.{zero-add, add-zero}
 use native.Mathlib.Omega.{arith}
 use mathlib.Core.Bool.{Bool, true, false, false≢true}
@@ -12,7 +12,6 @@ use borrow.Author.Tests.{lt-ltb, le-ltb}
 use lib.ListN.{length, take, drop, set, length-append, length-take, length-drop, drop-of-length-le}
 use lib.Seq.{take-length}
 use Rattle.bytes.specs.Bytes.{indexAfter, indexOf, slice}
-use Rattle.laws.specs.Choice.{pick}
 use Rattle.laws.specs.Bytes.{pasted}
 use Rattle.laws.proofs.Choice.{pick-yes, pick-no}
 use Rattle.laws.proofs.Lists.{pasted-none, pasted-length, pasted-twice, set-pasted, rest-all}
@@ -28,16 +27,13 @@ use Rattle.collector.specs.Collector.{
   empty,
   skips,
   longer,
-  Handed,
   line,
-  refused,
   tooLong,
   ended,
   Said,
   lineOf,
   usedUp,
   refusing,
-  Outcome,
   saying,
   keeping,
   stepped,

@@ -1,15 +1,14 @@
 -- However a stream was lumped, a caller's steps give what the whole stream gives.
 -- Assumes nothing.
-use mathlib.Core.Path.{_≡_, refl, sym, ap, ap₂, _∙_}
+use mathlib.Core.Path.{_≡_, refl, sym, ap, _∙_}
 use Prim.Native.Nat.{ℕ, zero, suc, _+_, _-_, _≤_, _<_}
-use native.Mathlib.Nat.{add-zero, zero-add}
+use native.Mathlib.Nat.{zero-add}
 use native.Mathlib.Omega.{arith}
 use native.Mathlib.Decide.{decLe}
 use mathlib.Core.Bool.{Bool, true, false}
 use mathlib.Core.List.{List, [], _∷_, _++_, append-assoc, append-nil}
-use lib.Dec.{ltb}
-use borrow.Author.Tests.{lt-ltb, le-ltb, ltb-true, ltb-false}
-use lib.ListN.{length, take, drop, replicate, length-append, length-take, length-drop, length-replicate}
+use borrow.Author.Tests.{lt-ltb, ltb-true, ltb-false}
+use lib.ListN.{length, take, drop, replicate, length-append, length-take, length-drop}
 use lib.Seq.{drop-drop}
 use Rattle.laws.specs.Bytes.{pasted}
 use Rattle.laws.proofs.Lists.{pasted-take}
@@ -21,15 +20,12 @@ use Rattle.collector.specs.Collector.{
   before,
   hasNewline,
   heldOf,
-  impossible,
   empty,
   longer,
   Handed,
   line,
-  refused,
   tooLong,
   ended,
-  Said,
   lineOf,
   usedUp,
   refusing,
@@ -39,21 +35,17 @@ use Rattle.collector.specs.Collector.{
   collect,
 }
 use Rattle.collector.specs.Lumps.{
-  cut,
   Gathered,
   handing,
-  gathered,
   stream,
   Steps,
   over,
   lined,
   long,
-  Lumps,
   none,
   next,
   Possible,
   joined,
-  Short,
   short-none,
   short-next,
   LumpsGive,

@@ -40,13 +40,17 @@ heldOf c = take (c .count) (c .held)
 unfoldable pub impossible : Collector → Bool
 impossible c = pick (ltb most (c .count)) true (hasNewline (heldOf c))
 
--- the record that holds nothing
+-- a record that holds nothing: its bytes are all 0
+abbrev pub nothing : Bool → Collector
+nothing skipping = record { held = replicate most 0; count = 0; skipping = skipping }
+
+-- the record between two lines
 abbrev pub empty : Collector
-empty = record { held = replicate most 0; count = 0; skipping = false }
+empty = nothing false
 
 -- the record inside a line that is too long: it holds nothing and remembers that it skips
 abbrev pub skips : Collector
-skips = record { held = replicate most 0; count = 0; skipping = true }
+skips = nothing true
 
 -- the record when x, with no 0A, comes: it is held while no more than 126 bytes are; with the 127th the line is too long, and its bytes are
 -- thrown away; what stands behind the held bytes stays

@@ -4,7 +4,7 @@ ghost use mathlib.Core.Path.{_≡_};
 ghost use Prim.Native.Nat.{_≤_};
 ghost use lib.ListN.{length, drop};
 ghost use Rattle.frame.specs.Line.{longest};
-ghost use Rattle.collector.specs.Collector.{most, longestLump, impossible, empty, longer, ended, said, saying, outcome, stepped, collect};
+ghost use Rattle.collector.specs.Collector.{most, longestLump, impossible, nothing, empty, longer, ended, said, saying, outcome, stepped, collect};
 
 // The most bytes that stand before a line's 0A.
 pub const MOST: usize = frame::LONGEST - 1;
@@ -40,15 +40,22 @@ pub struct Step {
 }
 
 impl Collector {
-    // A collector that holds nothing.
-    pub fn new() -> Collector
-        ensures { λ r. ⌜ r ≡ empty ⌝ }
+    // A collector that holds nothing, inside a line that is too long or not.
+    fn nothing(skipping: bool) -> Collector
+        ensures { λ r. ⌜ r ≡ nothing skipping ⌝ }
     {
         Collector {
             held: [0u8; 126],
             count: 0,
-            skipping: false,
+            skipping,
         }
+    }
+
+    // A collector that holds nothing.
+    pub fn new() -> Collector
+        ensures { λ r. ⌜ r ≡ empty ⌝ }
+    {
+        Collector::nothing(false)
     }
 
     // The collector with the bytes x more of its line, none of them 0A.
@@ -61,11 +68,7 @@ impl Collector {
         }
         let count = self.count + x.len();
         if MOST < count {
-            return Collector {
-                held: [0u8; 126],
-                count: 0,
-                skipping: true,
-            };
+            return Collector::nothing(true);
         }
         let mut held = self.held;
         laws::put(&mut held, self.count, x);

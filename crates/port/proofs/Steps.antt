@@ -1,7 +1,7 @@
 -- What a step of the collector gives fits the numbers that C reads, and is handed over by its result.
 -- Assumes nothing.
 use mathlib.Core.Path.{_≡_, refl, sym, ap, subst, _∙_}
-use Prim.Native.Nat.{ℕ, _+_, _≤_, _<_}
+use Prim.Native.Nat.{ℕ, _≤_}
 use native.Mathlib.Omega.{arith}
 use native.Mathlib.Decide.{decLe}
 use mathlib.Core.Bool.{Bool, true, false, false≢true}
@@ -16,7 +16,7 @@ use Rattle.collector.proofs.Laws.{collect-impossible, collect-long}
 use Rattle.collector.proofs.Cut.{formed, possible-longer}
 use Rattle.collector.proofs.Lumps.{Stepping, to-end, to-line, to-long, stepping}
 use Rattle.port.specs.Records.{collectorOf, collectorNumbers}
-use Rattle.port.specs.Calls.{CollectedC, stepResult, stepLength, wentOn, collectedBy, collectedC}
+use Rattle.port.specs.Calls.{stepResult, stepLength, wentOn, collectedBy, collectedC}
 use Rattle.port.specs.Inner.{StepSmall}
 
 -- the refusals 1 and 12 do not go on

@@ -1,33 +1,29 @@
 -- The collector's lines are the stream's, the frames of a body are whole lines, and so a body that comes in lumps is read back.
 -- Assumes nothing.
 use mathlib.Core.Path.{_≡_, refl, sym, ap, ap₂, _∙_}
-use Prim.Native.Nat.{ℕ, zero, suc, _+_, _-_, _≤_, _<_}
+use Prim.Native.Nat.{ℕ, zero, suc, _+_, _-_, _<_}
 use native.Mathlib.Nat.{zero-add}
 use native.Mathlib.Omega.{arith}
 use native.Mathlib.Decide.{decLe}
-use mathlib.Core.Bool.{Bool, true, false}
 use mathlib.Core.List.{List, [], _∷_, _++_, append-assoc, append-nil}
 use lib.Dec.{ltb, eqb}
 use borrow.Author.Tests.{lt-ltb, ltb-false, ne-eqb}
 use lib.ListN.{length, take, drop, length-append, length-take, drop-of-length-le}
-use Rattle.laws.specs.Choice.{pick}
-use Rattle.laws.specs.Bytes.{Bytes}
 use Rattle.laws.specs.Table.{tab}
-use Rattle.laws.proofs.Choice.{pick-yes, pick-no, pick-case}
+use Rattle.laws.proofs.Choice.{pick-yes, pick-case}
 use Rattle.base64.specs.Base64.{char, pad, encode}
 use Rattle.frame.specs.Line.{longest, newline, initial, partial, frame}
 use Rattle.bytes.specs.Bytes.{indexAfter, indexOf}
-use Rattle.collector.specs.declared.Collector.{Collector}
 use Rattle.collector.specs.Collector as collecting
-use Rattle.collector.specs.Lumps.{cut, handing, gathered, stream, joined, Lumps}
+use Rattle.collector.specs.Lumps.{cut, handing, gathered, stream, joined}
 use Rattle.collector.proofs.Laws.{ended-over, ended-line}
 use Rattle.collector.proofs.Cut.{before-yes, before-no, before-join, cut-yes, cut-clean, cut-some, split-at, stream-line, stream-none, possible-empty}
 use Rattle.collector.proofs.Lumps.{lumps-give}
 use Rattle.reader.specs.declared.Reader.{Reader}
-use Rattle.reader.specs.Reader.{Said, refused, keeping, takeLine}
-use Rattle.reader.specs.Lines.{Run, saying, feed, Amid}
+use Rattle.reader.specs.Reader.{keeping, takeLine}
+use Rattle.reader.specs.Lines.{feed}
 use Rattle.sender.specs.Sender.{frameCount, frameOf, markerOf, pieceOf}
-use Rattle.roundtrip.specs.RoundTrip.{frames, answers, readBack}
+use Rattle.roundtrip.specs.RoundTrip.{frames}
 use Rattle.roundtrip.specs.Lumped.{hear, linesIn, LumpsHeard, Whole, none, next, FramesWhole, LumpedRoundTrip}
 use Rattle.roundtrip.proofs.Passage.{round-trip}
 

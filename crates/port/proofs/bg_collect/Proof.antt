@@ -1,3 +1,5 @@
+-- `port::bg_collect` meets its contract: what a step that went on gave is stored, and else all stays.
+-- Assumes nothing.
 use mathlib.Core.Path.{sym, ap, _∙_}
 use native.Mathlib.Omega.{arith}
 use Rattle.port.specs.Calls.{wentOn}
@@ -5,40 +7,25 @@ use Rattle.port.proofs.Steps.{step-small, went, stayed}
 use borrow.Author.Needs.{needs}
 use Rattle.port.proofs.bg_collect.Statement.{statement}
 use Rattle.port.proofs.bg_collect.Tie as tie
-use Rattle.port.proofs.bg_collect.Reads as reads
-use Rattle.port.proofs.bg_collect.Lts as lts
-use Rattle.collector.proofs.Collector.collect.Reads as collect-reads
-use Rattle.port.proofs.collector_from.Reads as collector-from-reads
-use Rattle.port.proofs.step_length.Reads as step-length-reads
-use Rattle.port.proofs.step_result.Reads as step-result-reads
-use Rattle.port.proofs.store_collector.Reads as store-collector-reads
-use Rattle.port.proofs.went_on.Reads as went-on-reads
 
--- src/lib.rt:232:33
 element-copy-out-collector-from : tie.Need-element-copy-out-collector-from
 element-copy-out-collector-from c = search needs
 
--- src/lib.rt:232:44
 element-copy-out-collector-from-2 : tie.Need-element-copy-out-collector-from-2
 element-copy-out-collector-from-2 c = search needs
 
--- src/lib.rt:232:9
 collector-from-requires : tie.Need-collector-from-requires
 collector-from-requires c κs = search needs
 
--- src/lib.rt:233:9
 collect-requires : tie.Need-collect-requires
 collect-requires c κs = search needs
 
--- src/lib.rt:235:9
 step-result-requires : tie.Need-step-result-requires
 step-result-requires c κs = search needs
 
--- src/lib.rt:236:8
 went-on-requires : tie.Need-went-on-requires
 went-on-requires c κs = search needs
 
--- src/lib.rt:237:13
 step-length-requires : tie.Need-step-length-requires
 step-length-requires c κs =
     let a = c .before .before .before .before .before .before .before .before .before .before .args in
@@ -50,7 +37,6 @@ step-length-requires c κs =
     in
     small .0
 
--- src/lib.rt:238:9
 store-collector-requires : tie.Need-store-collector-requires
 store-collector-requires c κs =
     let a = c .before .before .before .before .before .before .before .before .before .before .before .before .before .args in
@@ -62,7 +48,6 @@ store-collector-requires c κs =
     in
     small .2
 
--- src/lib.rt:239:25
 cast-t24 : tie.Need-cast-t24
 cast-t24 c =
     let a = c .before .before .before .before .before .before .before .before .before .before .before .before .before .before .before .args in
@@ -74,7 +59,6 @@ cast-t24 c =
     in
     omega (arith, small .1)
 
--- src/lib.rt:240:9
 returns : tie.Need-returns
 returns c =
     let a = c .before .before .before .before .before .before .before .before .before .before .before .before .before .before .before .before .args in
@@ -84,7 +68,6 @@ returns c =
     (sym (c .before .before .before .before .before .before .before .went-on .ensures) ∙ c .before .before .before .before .before .before .if1 .taken) (c .before .before .before .before .before .step-length .ensures) (c .before .before .store-collector .ensures .0)
     (c .before .before .store-collector .ensures .1)
 
--- src/lib.rt:215:1
 returns-2 : tie.Need-returns-2
 returns-2 c =
     let a = c .before .before .before .before .before .before .before .before .before .before .args in

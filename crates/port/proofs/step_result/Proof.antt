@@ -1,3 +1,5 @@
+-- `port::step_result` meets its contract, case by case.
+-- Assumes nothing.
 use mathlib.Core.Path.{sym, ap, _∙_}
 use Rattle.collector.specs.declared.Got.{Got}
 use Rattle.collector.specs.Collector.{said}
@@ -5,37 +7,27 @@ use Rattle.port.specs.Calls.{stepResult}
 use borrow.Author.Needs.{needs}
 use Rattle.port.proofs.step_result.Statement.{statement}
 use Rattle.port.proofs.step_result.Tie as tie
-use Rattle.port.proofs.step_result.Reads as reads
-use Rattle.port.proofs.step_result.Lts as lts
-use Rattle.refusal.proofs.number.Reads as number-reads
 
--- src/lib.rt:172:25
 enum-told : tie.Need-enum-told
 enum-told c = search needs
 
--- src/lib.rt:173:24
 enum-told-2 : tie.Need-enum-told-2
 enum-told-2 c = search needs
 
--- src/lib.rt:174:22
 enum-known-got : tie.Need-enum-known-got
 enum-known-got c = search needs
 
--- src/lib.rt:174:30
 number-requires : tie.Need-number-requires
 number-requires c κs = search needs
 
--- src/lib.rt:168:1
 returns : tie.Need-returns
 unfolding stepResult
 returns c = sym (ap (λ (g : Got). stepResult (said g)) (c .enum-told .given .1))
 
--- src/lib.rt:168:1
 returns-2 : tie.Need-returns-2
 unfolding stepResult
 returns-2 c = sym (ap (λ (g : Got). stepResult (said g)) (c .enum-told2 .given .1))
 
--- src/lib.rt:168:1
 returns-3 : tie.Need-returns-3
 unfolding stepResult
 returns-3 c = c .number .ensures ∙ sym (ap (λ (g : Got). stepResult (said g)) (c .before .before .got .given .1))

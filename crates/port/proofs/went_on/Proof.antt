@@ -1,15 +1,13 @@
+-- `port::went_on` meets its contract: it is one of the two numbers.
+-- Assumes nothing.
 use borrow.Author.Tests.{eq-eqb, ne-eqb}
 use Rattle.laws.proofs.Choice.{pick-yes, pick-no}
 use Rattle.port.proofs.went_on.Statement.{statement}
 use Rattle.port.proofs.went_on.Tie as tie
-use Rattle.port.proofs.went_on.Reads as reads
-use Rattle.port.proofs.went_on.Lts as lts
 
--- src/lib.rt:194:9
 returns : tie.Need-returns
 returns c = simp (eq-eqb _ _ (c .if1 .taken), pick-yes)
 
--- src/lib.rt:190:1
 returns-2 : tie.Need-returns-2
 returns-2 c = simp (ne-eqb _ _ (c .if1 .left), pick-no)
 

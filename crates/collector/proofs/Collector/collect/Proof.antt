@@ -1,30 +1,23 @@
+-- `collector::Collector::collect` meets its contract: refusals 1 and 12, then the step.
+-- Assumes nothing.
 use mathlib.Core.Path.{sym, _∙_}
 use borrow.Author.Needs.{needs}
 use Rattle.collector.proofs.Laws.{possible-count, collect-impossible, collect-long, collect-steps}
 use Rattle.collector.proofs.Collector.collect.Statement.{statement}
 use Rattle.collector.proofs.Collector.collect.Tie as tie
-use Rattle.collector.proofs.Collector.collect.Reads as reads
-use Rattle.collector.proofs.Collector.collect.Lts as lts
-use Rattle.collector.proofs.Collector.is_impossible.Reads as is-impossible-reads
-use Rattle.collector.proofs.Collector.step.Reads as step-reads
 
--- src/lib.rt:146:12
 is-impossible-requires : tie.Need-is-impossible-requires
 is-impossible-requires c κs = search needs
 
--- src/lib.rt:147:13
 returns : tie.Need-returns
 returns c = sym (collect-impossible _ _ _ _ (sym (c .before .is-impossible .ensures) ∙ c .if1 .taken))
 
--- src/lib.rt:154:13
 returns-2 : tie.Need-returns-2
 returns-2 c = sym (collect-long _ _ _ _ (sym (c .before .before .is-impossible .ensures) ∙ c .before .if1 .left) (c .if2 .taken))
 
--- src/lib.rt:160:9
 step-requires : tie.Need-step-requires
 step-requires c κs = (search needs, possible-count _ (sym (c .before .before .before .is-impossible .ensures) ∙ c .before .before .if1 .left), c .before .if2 .left, c .step-arg .given .0 .1)
 
--- src/lib.rt:143:5
 returns-3 : tie.Need-returns-3
 returns-3 c =
     c .step .ensures ∙ sym (collect-steps _ _ _ _ (sym (c .before .before .before .before .is-impossible .ensures) ∙ c .before .before .before .if1 .left) (c .before .before .if2 .left))

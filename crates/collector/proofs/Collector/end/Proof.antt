@@ -1,3 +1,5 @@
+-- `collector::Collector::end` meets its contract: held bytes, new bytes and 0A one after the other are the line.
+-- Assumes nothing.
 use mathlib.Core.Path.{sym}
 use native.Mathlib.Omega.{arith}
 use lib.ListN.{length-take, length-set}
@@ -5,51 +7,38 @@ use borrow.Author.Needs.{needs}
 use Rattle.collector.proofs.Laws.{saying-skipping, saying-over, saying-line, line-begun}
 use Rattle.collector.proofs.Collector.end.Statement.{statement}
 use Rattle.collector.proofs.Collector.end.Tie as tie
-use Rattle.collector.proofs.Collector.end.Reads as reads
-use Rattle.collector.proofs.Collector.end.Lts as lts
-use Rattle.laws.proofs.put.Reads as put-reads
 
--- src/lib.rt:84:13
 returns : tie.Need-returns
 returns c = saying-skipping _ _ _ (c .if1 .taken)
 
--- src/lib.rt:87:20
 add-last : tie.Need-add-last
 add-last c = search needs
 
--- src/lib.rt:89:13
 returns-2 : tie.Need-returns-2
 returns-2 c = saying-over _ _ _ (c .before .if1 .left) (c .if2 .taken)
 
--- src/lib.rt:92:28
 array-share-prefix-held : tie.Need-array-share-prefix-held
 array-share-prefix-held c = search needs
 
--- src/lib.rt:92:28
 slice-aggregate-put : tie.Need-slice-aggregate-put
 slice-aggregate-put c =
     let pre = c .before .before .before .before .before .before .before .pre in
     simp (length-take, pre .0) (omega (arith, pre .1))
 
--- src/lib.rt:92:9
 put-requires : tie.Need-put-requires
 put-requires c κs =
     let pre = c .before .before .before .before .before .before .before .pre in
     simp (length-take, pre .0, pre .3) (omega (arith, pre .1))
 
--- src/lib.rt:93:9
 put-requires-2 : tie.Need-put-requires-2
 put-requires-2 c κs = search needs
 
--- src/lib.rt:94:9
 slice-write-line : tie.Need-slice-write-line
 slice-write-line c = search needs
 
--- src/lib.rt:95:19
 add-t9 : tie.Need-add-t9
 add-t9 c = search needs
 
--- src/lib.rt:79:5
 same-length : tie.Need-same-length
 same-length c =
     let a = c .before .before .before .before .before .before .before .before .before .before .before .before .before .before .args in
@@ -60,7 +49,6 @@ same-length c =
     in
     simp (length-set, begun .1) (sym (pre .3))
 
--- src/lib.rt:79:5
 returns-3 : tie.Need-returns-3
 returns-3 c =
     let a = c .before .before .before .before .before .before .before .before .before .before .before .before .before .before .args in

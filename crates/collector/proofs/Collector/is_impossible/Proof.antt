@@ -1,28 +1,23 @@
+-- `collector::Collector::is_impossible` meets its contract: the count is looked at, then the held bytes.
+-- Assumes nothing.
 use mathlib.Core.Path.{sym}
 use native.Mathlib.Omega.{arith}
 use borrow.Author.Needs.{needs}
 use Rattle.collector.proofs.Laws.{impossible-found, impossible-over}
 use Rattle.collector.proofs.Collector.is_impossible.Statement.{statement}
 use Rattle.collector.proofs.Collector.is_impossible.Tie as tie
-use Rattle.collector.proofs.Collector.is_impossible.Reads as reads
-use Rattle.collector.proofs.Collector.is_impossible.Lts as lts
-use Rattle.bytes.proofs.scan.find.Reads as find-reads
 
--- src/lib.rt:105:13
 returns : tie.Need-returns
 returns c = impossible-over _ (c .if1 .taken)
 
--- src/lib.rt:108:27
 slice-aggregate-find : tie.Need-slice-aggregate-find
 slice-aggregate-find c = search needs
 
--- src/lib.rt:108:9
 find-requires : tie.Need-find-requires
 find-requires c κs =
     let l = slice-aggregate-find c in
     (omega arith, rw (← l) (c .before .before .if1 .left))
 
--- src/lib.rt:100:5
 returns-2 : tie.Need-returns-2
 returns-2 c = impossible-found _ _ (sym (slice-aggregate-find (c .before))) (c .before .before .before .if1 .left) (c .find .ensures .0)
 
