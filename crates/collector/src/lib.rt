@@ -1,10 +1,10 @@
 // The line collector: bytes come in lumps, as a serial driver has them, and each line is handed on when its 0A comes.
 use refusal::Refusal;
 ghost use mathlib.Core.Path.{_≡_};
-ghost use Prim.Native.Nat.{_≤_};
-ghost use lib.ListN.{length, drop};
+ghost use Prim.Native.Nat.{_+_, _≤_};
+ghost use lib.ListN.{length, take, drop};
 ghost use Rattle.frame.specs.Line.{longest};
-ghost use Rattle.collector.specs.Collector.{most, longestLump, impossible, nothing, empty, longer, ended, said, saying, outcome, stepped, collect};
+ghost use Rattle.collector.specs.Collector.{most, longestLump, before, hasNewline, impossible, nothing, empty, longer, ended, said, saying, outcome, stepped, collect};
 
 // The most bytes that stand before a line's 0A.
 pub const MOST: usize = frame::LONGEST - 1;
@@ -39,6 +39,38 @@ pub struct Step {
     pub collector: Collector,
 }
 
+// Whether an 0A is among the 16 bytes from place i on: each of them is looked at, so that the compiler compares them at once.
+fn in_block(s: &[u8], i: usize) -> bool
+    requires { ⌜ i + 16 ≤ length (now s) ⌝ }
+    ensures { λ r. ⌜ r ≡ hasNewline (take 16 (drop i (now (s .entry)))) ⌝ }
+{
+    let mut found = false;
+    let mut j = 0;
+    while j < 16 {
+        if s[i + j] == frame::NEWLINE {
+            found = true;
+        }
+        j += 1;
+    }
+    found
+}
+
+// Where the first 0A from place `from` on stands, or the length where there is none.
+fn first_newline(s: &[u8], from: usize) -> usize
+    requires { ⌜ from ≤ length (now s) ⌝ }
+    ensures { λ r. ⌜ (r ≡ from + before (drop from (now (s .entry)))) × (r ≤ length (now (s .entry))) ⌝ }
+{
+    let len = s.len();
+    let mut i = from;
+    while 16 <= len - i {
+        if in_block(s, i) {
+            break;
+        }
+        i += 16;
+    }
+    bytes::scan::find(s, i, len, frame::NEWLINE)
+}
+
 impl Collector {
     // A collector that holds nothing, inside a line that is too long or not.
     fn nothing(skipping: bool) -> Collector
@@ -66,15 +98,15 @@ impl Collector {
         if self.skipping {
             return self;
         }
-        let count = self.count + x.len();
-        if MOST < count {
+        let there = self.count + x.len();
+        if MOST < there {
             return Collector::nothing(true);
         }
         let mut held = self.held;
         laws::put(&mut held, self.count, x);
         Collector {
             held,
-            count,
+            count: there,
             skipping: false,
         }
     }
@@ -124,13 +156,13 @@ impl Collector {
                 collector: self,
             };
         }
-        let end = bytes::scan::find(lump, at, len, frame::NEWLINE);
+        let end = first_newline(lump, at);
         if end == len {
-            let next = self.with(&lump[at..]);
+            let longer = self.with(&lump[at..]);
             return Step {
                 got: Got::UsedUp,
                 place: len,
-                collector: next,
+                collector: longer,
             };
         }
         let got = self.end(&lump[at..end], line);

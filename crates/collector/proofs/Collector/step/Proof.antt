@@ -1,4 +1,4 @@
--- `collector::Collector::step` meets its contract: nothing is left, no 0A is found, or one is.
+-- `collector::Collector::step` meets its contract: it goes past the lump's end, to it, or to the first 0A.
 -- Assumes nothing.
 use borrow.Author.Needs.{needs}
 use Rattle.collector.proofs.Laws.{step-past, step-rest, step-line}
@@ -10,8 +10,8 @@ returns c =
     let a = c .before .before .before .args in
     step-past (a .self) (a .lump .now) (a .at) (a .line .now) (c .before .before .before .pre .1) (c .if1 .taken)
 
-find-requires : tie.Need-find-requires
-find-requires c κs = search needs
+first-newline-requires : tie.Need-first-newline-requires
+first-newline-requires c κs = search needs
 
 sub-with : tie.Need-sub-with
 sub-with c = search needs
@@ -28,7 +28,7 @@ with-requires c κs = search needs
 returns-2 : tie.Need-returns-2
 returns-2 c =
     let a = c .before .before .before .before .before .before .before .args in
-    step-rest (a .self) (a .lump .now) (a .at) (a .line .now) _ _ (c .before .before .before .before .if1 .left) (c .before .before .before .find .ensures .0) (c .before .before .if2 .taken) (c .with .ensures)
+    step-rest (a .self) (a .lump .now) (a .at) (a .line .now) _ _ (c .before .before .before .before .if1 .left) (c .before .before .before .first-newline .ensures .0) (c .before .before .if2 .taken) (c .with .ensures)
 
 sub-end : tie.Need-sub-end
 sub-end c = search needs
@@ -54,7 +54,7 @@ same-length c = search needs
 returns-3 : tie.Need-returns-3
 returns-3 c =
     rw (c .new .ensures)
-    (step-line _ _ _ _ _ _ _ (c .before .before .before .before .before .before .before .before .if1 .left) (c .before .before .before .before .before .before .before .find .ensures .0) (c .before .before .before .before .before .before .before .find .ensures .1) (c .before .before .before .before .before .before .if2 .left)
+    (step-line _ _ _ _ _ _ _ (c .before .before .before .before .before .before .before .before .if1 .left) (c .before .before .before .before .before .before .before .first-newline .ensures .0) (c .before .before .before .before .before .before .before .first-newline .ensures .1) (c .before .before .before .before .before .before .if2 .left)
     (c .before .before .before .end .ensures))
 
 pub step-spec : {M : Type 1} → statement M
@@ -62,7 +62,7 @@ step-spec =
     tie.close
     (tie.spec
     returns
-    find-requires
+    first-newline-requires
     sub-with
     part-with-start
     part-with-end

@@ -9,8 +9,8 @@ use Rattle.collector.proofs.Collector.with.Tie as tie
 returns : tie.Need-returns
 returns c = sym (longer-skipping _ _ (c .if1 .taken))
 
-add-count : tie.Need-add-count
-add-count c = search needs
+add-there : tie.Need-add-there
+add-there c = search needs
 
 nothing-requires : tie.Need-nothing-requires
 nothing-requires c κs = search needs
@@ -30,4 +30,4 @@ returns-3 c =
 
 pub with-spec : {M : Type 1} → statement M
 with-spec =
-    tie.close (tie.spec returns add-count nothing-requires returns-2 slice-aggregate-put put-requires returns-3)
+    tie.close (tie.spec returns add-there nothing-requires returns-2 slice-aggregate-put put-requires returns-3)
