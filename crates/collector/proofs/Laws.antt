@@ -203,12 +203,12 @@ step-rest c lump at b r next inside f e en =
     let none : hasNewline (drop at lump) ≡ false = le-ltb (before (drop at lump)) (length (drop at lump)) (simp length-drop (omega (arith, f, e))) in
     rw (en, rest-all lump at, stepped-rest c (length lump) at (drop at lump) b none)
 
-pub step-line : (c : Collector) (lump : List ℕ) (at : ℕ) (b : List ℕ) (r : ℕ) (says : Said) (buffer : List ℕ) → at < length lump
+pub step-line : (c : Collector) (lump : List ℕ) (at : ℕ) (b : List ℕ) (r : ℕ) (says : Said) (buffer : List ℕ) (next : Collector) → at < length lump
     → r ≡ at + before (drop at lump) → r ≤ length lump → (r ≡ length lump → ⊥)
-    → (says, buffer) ≡ saying (ended c (take (r - at) (drop at lump))) b
-    → record { says = says; place = r + 1; collector = empty; buffer = buffer } ≡ stepped c (length lump) at (drop at lump) b
-step-line c lump at b r says buffer inside f most-r other e =
+    → (says, buffer) ≡ saying (ended c (take (r - at) (drop at lump))) b → next ≡ empty
+    → record { says = says; place = r + 1; collector = next; buffer = buffer } ≡ stepped c (length lump) at (drop at lump) b
+step-line c lump at b r says buffer next inside f most-r other e en =
     let there : hasNewline (drop at lump) ≡ true = lt-ltb (before (drop at lump)) (length (drop at lump)) (simp length-drop (omega (arith, f, most-r, below (r) (length lump) most-r other))) in
     let n : r - at ≡ before (drop at lump) = omega (arith, f) in
     let e2 : (says, buffer) ≡ saying (ended c (take (before (drop at lump)) (drop at lump))) b = rw n at e in
-    rw (stepped-line c (length lump) at (drop at lump) b there, ← e2, ← f)
+    rw (stepped-line c (length lump) at (drop at lump) b there, en, ← e2, ← f)

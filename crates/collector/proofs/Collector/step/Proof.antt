@@ -53,9 +53,8 @@ same-length c = search needs
 
 returns-3 : tie.Need-returns-3
 returns-3 c =
-    rw (c .new .ensures)
-    (step-line _ _ _ _ _ _ _ (c .before .before .before .before .before .before .before .before .if1 .left) (c .before .before .before .before .before .before .before .first-newline .ensures .0) (c .before .before .before .before .before .before .before .first-newline .ensures .1) (c .before .before .before .before .before .before .if2 .left)
-    (c .before .before .before .end .ensures))
+    step-line _ _ _ _ _ _ _ _ (c .before .before .before .before .before .before .before .before .if1 .left) (c .before .before .before .before .before .before .before .first-newline .ensures .0) (c .before .before .before .before .before .before .before .first-newline .ensures .1) (c .before .before .before .before .before .before .if2 .left) (c .before .before .before .end .ensures)
+    (c .new .ensures)
 
 pub step-spec : {M : Type 1} → statement M
 step-spec =
