@@ -202,13 +202,13 @@ fn step_length(got: Got) -> u32
 }
 
 // Whether a step with this result went on in its lump.
-fn went_on(n: u32) -> bool
-    ensures { λ r. ⌜ r ≡ wentOn n ⌝ }
+fn went_on(result: u32) -> bool
+    ensures { λ r. ⌜ r ≡ wentOn result ⌝ }
 {
-    if n == 0 {
+    if result == 0 {
         return true;
     }
-    n == 2
+    result == 2
 }
 
 // Goes on in a lump, to the end of the next line or to the lump's end: see include/belagunthi.h.
