@@ -7,6 +7,7 @@ use mathlib.Core.List.{List, [], _∷_, _++_}
 use lib.ListN.{length, getD, take, drop}
 use Rattle.laws.specs.Choice.{pick}
 use Rattle.laws.specs.Bytes.{pasted}
+use Rattle.frame.specs.Line.{longest}
 use Rattle.collector.specs.declared.Collector.{Collector}
 use Rattle.collector.specs.Collector.{longestLump, before, empty, longer, Handed, line, refused, tooLong, lineOf, usedUp, refusing, Outcome, collect}
 use Rattle.collector.specs.Lumps as lumping
@@ -58,7 +59,7 @@ data Went (c : Collector) (lump : List ℕ) (at : ℕ) (hs : List Handed) (r hel
   went : (d : Collector) → Steps c lump at hs d → r ≡ collectorNumbers d → held ≡ d .held → Went c lump at hs r held
 
 -- a call that used the lump up
-went-over : (c : Collector) (r held lump : List ℕ) (at : ℕ) (b got : List ℕ) → r ≡ collectorNumbers c → held ≡ c .held → length b ≡ 127
+went-over : (c : Collector) (r held lump : List ℕ) (at : ℕ) (b got : List ℕ) → r ≡ collectorNumbers c → held ≡ c .held → length b ≡ longest
     → Stepping c lump at b → collectedC r held lump at b got .result ≡ 0 → getD (collectedC r held lump at b got .got) 0 0 ≡ 0
     → Went c lump at [] (collectedC r held lump at b got .record-after) (collectedC r held lump at b got .held)
 went-over c r held lump at b got er eh size (to-end clean o) e f =
@@ -76,7 +77,7 @@ went-over c r held lump at b got er eh size (to-long h g o) e f =
     absurd (omega (arith, n))
 
 -- one more step before others, to a line and to a line too long
-line-more : (c : Collector) (lump : List ℕ) (at n place : ℕ) (b buffer : List ℕ) (hs : List Handed) (r held : List ℕ) → length b ≡ 127
+line-more : (c : Collector) (lump : List ℕ) (at n place : ℕ) (b buffer : List ℕ) (hs : List Handed) (r held : List ℕ) → length b ≡ longest
     → collect c lump at b ≡ record { says = lineOf n; place = place; collector = empty; buffer = buffer } → Went empty lump place hs r held
     → Went c lump at (line (take n buffer) ∷ hs) r held
 line-more c lump at n place b buffer hs r held size o (went d steps er eh) =
@@ -84,7 +85,7 @@ line-more c lump at n place b buffer hs r held size o (went d steps er eh) =
     let step = lumping.lined {c = c} {lump = lump} {at = at} b n size (ap (λ (x : Outcome). x .says) o) rest in
     went d (rw o at step) er eh
 
-long-more : (c : Collector) (lump : List ℕ) (at place : ℕ) (b buffer : List ℕ) (hs : List Handed) (r held : List ℕ) → length b ≡ 127
+long-more : (c : Collector) (lump : List ℕ) (at place : ℕ) (b buffer : List ℕ) (hs : List Handed) (r held : List ℕ) → length b ≡ longest
     → collect c lump at b ≡ record { says = refusing 2; place = place; collector = empty; buffer = buffer } → Went empty lump place hs r held
     → Went c lump at (tooLong ∷ hs) r held
 long-more c lump at place b buffer hs r held size o (went d steps er eh) =
@@ -93,7 +94,7 @@ long-more c lump at place b buffer hs r held size o (went d steps er eh) =
 
 -- a call that gave a line, and the calls after it
 went-line : (c : Collector) (r held lump : List ℕ) (at : ℕ) (b got : List ℕ) (hs : List Handed) (r′ held′ : List ℕ) → r ≡ collectorNumbers c → held ≡ c .held
-    → length b ≡ 127 → Stepping c lump at b → collectedC r held lump at b got .result ≡ 0
+    → length b ≡ longest → Stepping c lump at b → collectedC r held lump at b got .result ≡ 0
     → (getD (collectedC r held lump at b got .got) 0 0 ≡ 0 → ⊥)
     → (collectedC r held lump at b got .record-after ≡ collectorNumbers empty → collectedC r held lump at b got .held ≡ empty .held
     → Went empty lump (getD (collectedC r held lump at b got .got) 1 0) hs r′ held′)
@@ -113,7 +114,7 @@ went-line c r held lump at b got hs r′ held′ er eh size (to-line l h g small
 
 -- a call that refused a line too long, and the calls after it
 went-long : (c : Collector) (r held lump : List ℕ) (at : ℕ) (b got : List ℕ) (hs : List Handed) (r′ held′ : List ℕ) → r ≡ collectorNumbers c → held ≡ c .held
-    → length b ≡ 127 → Stepping c lump at b → collectedC r held lump at b got .result ≡ 2
+    → length b ≡ longest → Stepping c lump at b → collectedC r held lump at b got .result ≡ 2
     → (collectedC r held lump at b got .record-after ≡ collectorNumbers empty → collectedC r held lump at b got .held ≡ empty .held
     → Went empty lump (getD (collectedC r held lump at b got .got) 1 0) hs r′ held′)
     → Went c lump at (tooLong ∷ hs) r′ held′

@@ -15,7 +15,7 @@ pub const LONGEST_LUMP: usize = 256;
 // The collector's record between two steps.
 pub struct Collector {
     // The bytes of the line that has begun stand at the start of this array; what stands behind them is not looked at.
-    pub held: [u8; 126],
+    pub held: [u8; MOST],
     // How many bytes are held.
     pub count: usize,
     // The line that has begun is too long: its bytes are thrown away up to and including its 0A.
@@ -77,7 +77,7 @@ impl Collector {
         ensures { λ r. ⌜ r ≡ nothing skipping ⌝ }
     {
         Collector {
-            held: [0u8; 126],
+            held: [0u8; MOST],
             count: 0,
             skipping,
         }
@@ -175,7 +175,7 @@ impl Collector {
     }
 
     // Goes on in a lump from a place: to the end of the next line, or to the lump's end.
-    pub fn collect(self, lump: &[u8], at: usize, line: &mut [u8; 127]) -> Step
+    pub fn collect(self, lump: &[u8], at: usize, line: &mut [u8; frame::LONGEST]) -> Step
         ensures { λ r. ⌜ outcome r (now (line .exit)) ≡ collect self (now (lump .entry)) at (now (line .entry)) ⌝ }
     {
         if self.is_impossible() {

@@ -25,8 +25,8 @@ unfolding stepResult
 kept-small n c at b e went = absurd (false≢true (sym e ∙ went))
 
 -- a step through a lump
-stepping-small : (c : Collector) (lump : List ℕ) (at : ℕ) (b : List ℕ) → (length (c .held) ≡ 126) × (collecting.impossible c ≡ false)
-    → length lump ≤ 256 → Stepping c lump at b → StepSmall (collecting.collect c lump at b)
+stepping-small : (c : Collector) (lump : List ℕ) (at : ℕ) (b : List ℕ) → (length (c .held) ≡ collecting.most) × (collecting.impossible c ≡ false)
+    → length lump ≤ collecting.longestLump → Stepping c lump at b → StepSmall (collecting.collect c lump at b)
 unfolding stepLength
 stepping-small c lump at b p short (to-end clean o) =
     let next = possible-longer c (drop at lump) p clean in
@@ -36,19 +36,19 @@ stepping-small c lump at b p short (to-line l h f small o) =
 stepping-small c lump at b p short (to-long h f o) =
     rw o (λ went. (omega arith, omega (arith, h, short, length-drop at lump), omega arith))
 
-collect-small : (c : Collector) (lump : List ℕ) (at : ℕ) (b : List ℕ) → length (c .held) ≡ 126 → StepSmall (collecting.collect c lump at b)
+collect-small : (c : Collector) (lump : List ℕ) (at : ℕ) (b : List ℕ) → length (c .held) ≡ collecting.most → StepSmall (collecting.collect c lump at b)
 unfolding pick
 collect-small c lump at b l = by-test (collecting.impossible c) refl
   where
     by-test : (t : Bool) → collecting.impossible c ≡ t → StepSmall (collecting.collect c lump at b)
     by-test true e = rw (collect-impossible c lump at b e) (kept-small 1 c at b refl)
-    by-test false e = elim (decLe (length lump) 256) [
+    by-test false e = elim (decLe (length lump) collecting.longestLump) [
       | no k ↦ rw (collect-long c lump at b e (omega (arith, k))) (kept-small 12 c at b refl)
       | yes k ↦ stepping-small c lump at b (l, e) k (stepping c lump at b (l, e) k)
     ]
 
 -- the same of what the call gave
-pub step-small : (c : Collector) (lump : List ℕ) (at : ℕ) (b : List ℕ) (t : Step) (after : List ℕ) → length (c .held) ≡ 126
+pub step-small : (c : Collector) (lump : List ℕ) (at : ℕ) (b : List ℕ) (t : Step) (after : List ℕ) → length (c .held) ≡ collecting.most
     → collecting.outcome t after ≡ collecting.collect c lump at b → StepSmall (collecting.outcome t after)
 step-small c lump at b t after l e = subst StepSmall (sym e) (collect-small c lump at b l)
 

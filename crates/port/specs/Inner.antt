@@ -3,6 +3,7 @@
 use Prim.Native.Nat.{_≤_, _<_}
 use mathlib.Core.Path.{_≡_}
 use mathlib.Core.Bool.{true, false}
+use Rattle.frame.specs.Line.{longest}
 use Rattle.collector.specs.Collector as collecting
 use Rattle.reader.specs.declared.Reader.{Reader}
 use Rattle.reader.specs.declared.Reader.the-variants.{Idle, Open}
@@ -15,7 +16,7 @@ use Rattle.port.specs.Calls.{stepResult, stepLength, wentOn, keepsRecord
 
 -- where a step of the collector went on, its numbers fit
 abbrev pub StepSmall : collecting.Outcome → Type 0
-StepSmall o = wentOn (stepResult (o .says)) ≡ true → (stepLength (o .says) ≤ 127) × (o .place ≤ 256) × (o .collector .count ≤ 126)
+StepSmall o = wentOn (stepResult (o .says)) ≡ true → (stepLength (o .says) ≤ longest) × (o .place ≤ collecting.longestLump) × (o .collector .count ≤ collecting.most)
 
 -- a reader's record whose numbers fit
 abbrev pub Storable : Reader → Type 0

@@ -18,7 +18,8 @@ ghost use mathlib.Core.List.{List};
 ghost use Prim.Native.Nat.{_<_, _≤_, ℕ};
 ghost use lib.ListN.{length};
 ghost use Rattle.map.specs.Fields.{flagNumber};
-ghost use Rattle.collector.specs.Collector.{said};
+ghost use Rattle.frame.specs.Line.{longest};
+ghost use Rattle.collector.specs.Collector.{most, said};
 ghost use Rattle.port.specs.Records.{collectorFrom, collectorNumbers, readerNumbers, sessionNumbers, flagOf, readerFrom, sessionFrom, thereOf};
 ghost use Rattle.port.specs.Records.{runThere, runStart, runLength, replyNumbers};
 ghost use Rattle.port.specs.Calls.{stepResult, stepLength, wentOn, collectedC, tookLine, keepsRecord, handledC, wroteBy, wroteC, sentFrame, configuredC, readC};
@@ -156,8 +157,8 @@ fn store_session(record: &mut [u32; 4], session: Session)
 }
 
 // The collector's record out of its two numbers and its bytes.
-fn collector_from(count: u32, skipping: u32, held: [u8; 126]) -> Collector
-    ensures { λ r. ⌜ (r ≡ collectorFrom count skipping held) × (length (r .held) ≡ 126) ⌝ }
+fn collector_from(count: u32, skipping: u32, held: [u8; collector::MOST]) -> Collector
+    ensures { λ r. ⌜ (r ≡ collectorFrom count skipping held) × (length (r .held) ≡ most) ⌝ }
 {
     let is_skipping = flag_of(skipping);
     Collector {
@@ -168,8 +169,8 @@ fn collector_from(count: u32, skipping: u32, held: [u8; 126]) -> Collector
 }
 
 // The collector's record goes to its two numbers and its bytes.
-fn store_collector(record: &mut [u32; 2], held: &mut [u8; 126], collector: Collector)
-    requires { ⌜ collector .count ≤ 126 ⌝ }
+fn store_collector(record: &mut [u32; 2], held: &mut [u8; collector::MOST], collector: Collector)
+    requires { ⌜ collector .count ≤ most ⌝ }
     ensures { λ _. ⌜ (now («record» .exit) ≡ collectorNumbers collector) × (now (held .exit) ≡ collector .held) ⌝ }
 {
     let skipping = number_of_flag(collector.skipping);
@@ -191,7 +192,7 @@ fn step_result(got: Got) -> u32
 
 // The length of the line that a step of the collector gave, or 0.
 fn step_length(got: Got) -> u32
-    requires { ⌜ stepLength (said got) ≤ 127 ⌝ }
+    requires { ⌜ stepLength (said got) ≤ longest ⌝ }
     ensures { λ r. ⌜ r ≡ stepLength (said got) ⌝ }
 {
     match got {
@@ -215,10 +216,10 @@ fn went_on(result: u32) -> bool
 #[no_mangle]
 pub extern "C" fn bg_collect(
     record: &mut [u32; 2],
-    held: &mut [u8; 126],
+    held: &mut [u8; collector::MOST],
     lump: &[u8],
     at: usize,
-    line: &mut [u8; 127],
+    line: &mut [u8; frame::LONGEST],
     got: &mut [u32; 2],
 ) -> u32
     ensures { λ r. ⌜ record {

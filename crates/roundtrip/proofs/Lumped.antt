@@ -20,8 +20,8 @@ use Rattle.collector.proofs.Laws.{ended-over, ended-line}
 use Rattle.collector.proofs.Cut.{before-yes, before-no, before-join, cut-yes, cut-clean, cut-some, split-at, stream-line, stream-none, possible-empty}
 use Rattle.collector.proofs.Lumps.{lumps-give}
 use Rattle.reader.specs.declared.Reader.{Reader}
-use Rattle.reader.specs.Reader.{keeping, takeLine}
-use Rattle.reader.specs.Lines.{feed}
+use Rattle.reader.specs.Reader.{refused, keeping, takeLine}
+use Rattle.reader.specs.Lines.{saying, feed}
 use Rattle.sender.specs.Sender.{frameCount, frameOf, markerOf, pieceOf}
 use Rattle.roundtrip.specs.RoundTrip.{frames}
 use Rattle.roundtrip.specs.Lumped.{hear, linesIn, LumpsHeard, Whole, none, next, FramesWhole, LumpedRoundTrip}
@@ -38,12 +38,12 @@ hear-ended : (x : List ℕ) (hs : List collecting.Handed) (ls : List (List ℕ))
     → hear (collecting.ended collecting.empty x ∷ hs) r p ≡ feed ((x ++ (newline ∷ [])) ∷ ls) r p
 unfolding hear feed
 hear-ended x hs ls r p rest = elim (decLe (length x) collecting.most) [
-  | yes k ↦ rw (ended-line collecting.empty x refl (rw zero-add k), rest (takeLine r (x ++ (newline ∷ [])) p .reader) (takeLine r (x ++ (newline ∷ [])) p .buffer))
+  | yes k ↦ rw (ended-line collecting.empty x refl (rw zero-add k)) (ap (saying (takeLine r (x ++ (newline ∷ [])) p .says))
+      (rest (takeLine r (x ++ (newline ∷ [])) p .reader) (takeLine r (x ++ (newline ∷ [])) p .buffer)))
   | no k ↦ rw (
     ended-over collecting.empty x refl (rw zero-add (omega (arith, k))),
     over-line r (x ++ (newline ∷ [])) p (rw length-append (omega (arith, k))),
-    rest r p,
-  )
+  ) (ap (saying (refused 2)) (rest r p))
 ]
 
 -- what is said to a stream's pieces, and to its lines

@@ -4,6 +4,7 @@ use mathlib.Core.Path.{sym, ap, subst}
 use Prim.Native.Nat.{_≤_}
 use native.Mathlib.Omega.{arith}
 use Rattle.collector.specs.declared.Got.{Got}
+use Rattle.frame.specs.Line.{longest}
 use Rattle.collector.specs.Collector.{said}
 use Rattle.port.specs.Calls.{stepLength}
 use borrow.Author.Needs.{needs}
@@ -15,7 +16,7 @@ enum-known-got c = search needs
 
 cast-result : tie.Need-cast-result
 unfolding stepLength
-cast-result c = omega (arith, subst (λ (g : Got). stepLength (said g) ≤ 127) (c .before .got .given .1) (c .before .before .before .pre))
+cast-result c = omega (arith, subst (λ (g : Got). stepLength (said g) ≤ longest) (c .before .got .given .1) (c .before .before .before .pre))
 
 enum-told : tie.Need-enum-told
 enum-told c = search needs
