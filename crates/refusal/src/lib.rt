@@ -4,7 +4,7 @@ ghost use Rattle.refusal.specs.Number.{numberOf};
 
 // Why a call refused its input.
 pub enum Refusal {
-    // The slot region or the session record is impossible.
+    // The slot region, the session record or the collector's record is impossible.
     Impossible,
     // The line is over 127 bytes.
     LineTooLong,
@@ -26,7 +26,7 @@ pub enum Refusal {
     WrongKind,
     // The reply buffer is under 32 bytes.
     ReplyTooShort,
-    // What the sender or a writer cannot send.
+    // What the sender or a writer cannot send, or a lump over 256 bytes.
     Unsendable,
     // The frame number is not below the count.
     NoSuchFrame,
