@@ -20,7 +20,7 @@
  *
  * To link: the archive libport.a is code for x86-64 Linux, today for no other processor, and needs memcpy and memset of the C library, and nothing
  * else. No call takes more than BG_STACK bytes of stack; measured on x86-64, without what memcpy and memset take:
- *   bg_collect         520
+ *   bg_collect         408
  *   bg_take_line       456
  *   bg_send_frame      248
  *   bg_configure         8
