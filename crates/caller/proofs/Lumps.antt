@@ -93,7 +93,8 @@ long-more c lump at place b buffer hs r held size o (went d steps er eh) =
     went d (lumping.long {c = c} {lump = lump} {at = at} b size (ap (λ (x : Outcome). x .says) o) rest) er eh
 
 -- a call that gave a line, and the calls after it
-went-line : (c : Collector) (r held lump : List ℕ) (at : ℕ) (b got : List ℕ) (hs : List Handed) (r′ held′ : List ℕ) → r ≡ collectorNumbers c → held ≡ c .held
+went-line : (c : Collector) (r held lump : List ℕ) (at : ℕ) (b got : List ℕ) (hs : List Handed)
+    (r′ held′ : List ℕ) → r ≡ collectorNumbers c → held ≡ c .held
     → length b ≡ longest → Stepping c lump at b → collectedC r held lump at b got .result ≡ 0
     → (getD (collectedC r held lump at b got .got) 0 0 ≡ 0 → ⊥)
     → (collectedC r held lump at b got .record-after ≡ collectorNumbers empty → collectedC r held lump at b got .held ≡ empty .held
@@ -113,7 +114,8 @@ went-line c r held lump at b got hs r′ held′ er eh size (to-line l h g small
     rw k (line-more c lump at (length l) (at + before (drop at lump) + 1) b (pasted b 0 l) hs r′ held′ size o here)
 
 -- a call that refused a line too long, and the calls after it
-went-long : (c : Collector) (r held lump : List ℕ) (at : ℕ) (b got : List ℕ) (hs : List Handed) (r′ held′ : List ℕ) → r ≡ collectorNumbers c → held ≡ c .held
+went-long : (c : Collector) (r held lump : List ℕ) (at : ℕ) (b got : List ℕ) (hs : List Handed)
+    (r′ held′ : List ℕ) → r ≡ collectorNumbers c → held ≡ c .held
     → length b ≡ longest → Stepping c lump at b → collectedC r held lump at b got .result ≡ 2
     → (collectedC r held lump at b got .record-after ≡ collectorNumbers empty → collectedC r held lump at b got .held ≡ empty .held
     → Went empty lump (getD (collectedC r held lump at b got .got) 1 0) hs r′ held′)
@@ -152,7 +154,8 @@ one-lump : (c d : Collector) (lump : List ℕ) (lumps : List (List ℕ)) (hs ks 
     → Steps c lump 0 hs d → WentAll d lumps ks r held → WentAll c (lump ∷ lumps) (hs ++ ks) r held
 one-lump c d lump lumps hs ks r held short steps (went-all e rest er eh) = went-all e (lumping.next short steps rest) er eh
 
-by-lump : (c : Collector) (lump : List ℕ) (lumps : List (List ℕ)) (hs ks : List Handed) (r held r′ held′ : List ℕ) → Possible c → length lump ≤ longestLump
+by-lump : (c : Collector) (lump : List ℕ) (lumps : List (List ℕ)) (hs ks : List Handed)
+    (r held r′ held′ : List ℕ) → Possible c → length lump ≤ longestLump
     → Went c lump 0 hs r held → ((d : Collector) → r ≡ collectorNumbers d → held ≡ d .held → Possible d → WentAll d lumps ks r′ held′)
     → WentAll c (lump ∷ lumps) (hs ++ ks) r′ held′
 by-lump c lump lumps hs ks r held r′ held′ p short (went d steps er eh) rest =

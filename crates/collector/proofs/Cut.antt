@@ -127,7 +127,12 @@ longer-twice c x y (l, h) = by-test (c .skipping) refl
     by-test false e = elim (decLe (c .count + length x) most) [
       | no k ↦ rw (longer-over c x e (omega (arith, k)), longer-skipping skips y refl, longer-over c (x ++ y) e (rw (sum c x y) (omega (arith, k))))
       | yes k ↦ elim (decLe (c .count + length x + length y) most) [
-        | no m ↦ rw (longer-held c x e k, longer-over (more c x) y refl (omega (arith, m)), longer-over c (x ++ y) e (rw (sum c x y) (omega (arith, m))))
+        | no m ↦ rw (
+          longer-held c x e k,
+          longer-over (more c x) y refl (omega (arith, m)),
+          longer-over c (x ++ y) e
+              (rw (sum c x y) (omega (arith, m))),
+        )
         | yes m ↦ rw (
           longer-held c x e k,
           longer-held (more c x) y refl m,
@@ -147,7 +152,12 @@ ended-longer c x y (l, h) = by-test (c .skipping) refl
     by-test false e = elim (decLe (c .count + length x) most) [
       | no k ↦ rw (longer-over c x e (omega (arith, k)), ended-skipping skips y refl, ended-over c (x ++ y) e (rw (sum c x y) (omega (arith, k))))
       | yes k ↦ elim (decLe (c .count + length x + length y) most) [
-        | no m ↦ rw (longer-held c x e k, ended-over (more c x) y refl (omega (arith, m)), ended-over c (x ++ y) e (rw (sum c x y) (omega (arith, m))))
+        | no m ↦ rw (
+          longer-held c x e k,
+          ended-over (more c x) y refl (omega (arith, m)),
+          ended-over c (x ++ y) e
+              (rw (sum c x y) (omega (arith, m))),
+        )
         | yes m ↦ rw (
           longer-held c x e k,
           ended-line (more c x) y refl m,
@@ -221,5 +231,6 @@ possible-longer c x (l, e) clean = by-test (c .skipping) refl
       | no m ↦ rw (longer-over c x t (omega (arith, m))) possible-skips
       | yes m ↦ rw (longer-held c x t m)
           (clean-possible (more c x) (pasted-length (c .held) (c .count) x (rw l m) ∙ l, m)
-          (rw (held-more c x (l, k) m, before-join (heldOf c) x (possible-clean c (l, e)), length-append) (ap (λ (n : ℕ). length (heldOf c) + n) clean)))
+          (rw (held-more c x (l, k) m, before-join (heldOf c) x (possible-clean c (l, e)), length-append)
+          (ap (λ (n : ℕ). length (heldOf c) + n) clean)))
     ]

@@ -208,7 +208,8 @@ pub step-line : (c : Collector) (lump : List ℕ) (at : ℕ) (b : List ℕ) (r :
     → (says, buffer) ≡ saying (ended c (take (r - at) (drop at lump))) b → next ≡ empty
     → record { says = says; place = r + 1; collector = next; buffer = buffer } ≡ stepped c (length lump) at (drop at lump) b
 step-line c lump at b r says buffer next inside f most-r other e en =
-    let there : hasNewline (drop at lump) ≡ true = lt-ltb (before (drop at lump)) (length (drop at lump)) (simp length-drop (omega (arith, f, most-r, below (r) (length lump) most-r other))) in
+    let there : hasNewline (drop at lump) ≡ true = lt-ltb (before (drop at lump)) (length (drop at lump))
+    (simp length-drop (omega (arith, f, most-r, below (r) (length lump) most-r other))) in
     let n : r - at ≡ before (drop at lump) = omega (arith, f) in
     let e2 : (says, buffer) ≡ saying (ended c (take (before (drop at lump)) (drop at lump))) b = rw n at e in
     rw (stepped-line c (length lump) at (drop at lump) b there, en, ← e2, ← f)

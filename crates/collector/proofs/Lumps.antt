@@ -116,7 +116,8 @@ stream-on c lump at t h =
     let n : at + (before (drop at lump) + 1) ≡ at + before (drop at lump) + 1 = omega arith in
     let size : length (take (before (drop at lump)) (drop at lump)) ≡ before (drop at lump) = rw length-take (omega (arith, h)) in
     ap (λ (l : List ℕ). stream c (l ++ t)) (parts .0)
-    ∙ ap (λ (l : List ℕ). stream c l) (append-assoc (take (before (drop at lump)) (drop at lump)) (newline ∷ drop (before (drop at lump) + 1) (drop at lump)) t)
+    ∙ ap (λ (l : List ℕ). stream c l)
+    (append-assoc (take (before (drop at lump)) (drop at lump)) (newline ∷ drop (before (drop at lump) + 1) (drop at lump)) t)
     ∙ stream-line c (take (before (drop at lump)) (drop at lump)) (drop (before (drop at lump) + 1) (drop at lump) ++ t) (parts .1 ∙ sym size)
     ∙ rw (drop-drop (before (drop at lump) + 1) at lump, n)
 

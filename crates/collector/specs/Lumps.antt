@@ -71,7 +71,7 @@ abbrev pub LumpsGive : Type 0
 LumpsGive = (c : Collector) (lumps : List (List ℕ)) (hs : List Handed) (d : Collector) → Possible c → Lumps c lumps hs d
     → (hs ≡ stream c (joined lumps) .handed) × (d ≡ stream c (joined lumps) .collector)
 
--- lumps of 0 to 256 bytes, from a possible record on
+-- lumps of 0 to 256 bytes each
 pub data Short : List (List ℕ) → Type 0 where
   short-none : Short []
   short-next : {lump : List ℕ} {lumps : List (List ℕ)} → length lump ≤ longestLump → Short lumps → Short (lump ∷ lumps)

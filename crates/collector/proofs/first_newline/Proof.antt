@@ -33,8 +33,11 @@ loop-less c = omega arith
 
 loop-again : tie.Need-loop-again Inv-loop μ-loop
 loop-again c =
-    let l = c .before .before .before in
-    (omega arith, l .loop .inv .1 ∙ passed (l .before .before .args .s .now) (l .loop .i) 16 (omega arith) (sym (c .before .in-block .ensures) ∙ c .if1 .left))
+    let l = c .before .before .before in (
+      omega arith,
+      l .loop .inv .1 ∙ passed (l .before .before .args .s .now) (l .loop .i) 16 (omega arith)
+          (sym (c .before .in-block .ensures) ∙ c .if1 .left),
+    )
 
 find-requires : tie.Need-find-requires Inv-loop μ-loop
 find-requires c κs = (omega arith, omega arith)

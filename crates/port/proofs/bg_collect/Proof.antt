@@ -31,7 +31,8 @@ step-length-requires c κs =
     let a = c .before .before .before .before .before .before .before .before .before .before .args in
     let t = c .before .before .before .collect .result in
     let small =
-    step-small (c .before .before .before .before .before .collector-from .result) (a .lump .now) (a .at) (a .line .now) t (c .before .before .before .collect .last .1 .1 .1 .0)
+    step-small (c .before .before .before .before .before .collector-from .result) (a .lump .now) (a .at) (a .line .now) t
+    (c .before .before .before .collect .last .1 .1 .1 .0)
     (c .before .before .before .before .before .collector-from .ensures .1) (c .before .before .before .collect .ensures)
     (ap wentOn (sym (c .before .before .step-result .ensures)) ∙ (sym (c .before .went-on .ensures) ∙ c .if1 .taken))
     in
@@ -42,9 +43,12 @@ store-collector-requires c κs =
     let a = c .before .before .before .before .before .before .before .before .before .before .before .before .before .args in
     let t = c .before .before .before .before .before .before .collect .result in
     let small =
-    step-small (c .before .before .before .before .before .before .before .before .collector-from .result) (a .lump .now) (a .at) (a .line .now) t (c .before .before .before .before .before .before .collect .last .1 .1 .1 .0)
-    (c .before .before .before .before .before .before .before .before .collector-from .ensures .1) (c .before .before .before .before .before .before .collect .ensures)
-    (ap wentOn (sym (c .before .before .before .before .before .step-result .ensures)) ∙ (sym (c .before .before .before .before .went-on .ensures) ∙ c .before .before .before .if1 .taken))
+    step-small (c .before .before .before .before .before .before .before .before .collector-from .result) (a .lump .now) (a .at) (a .line .now) t
+    (c .before .before .before .before .before .before .collect .last .1 .1 .1 .0)
+    (c .before .before .before .before .before .before .before .before .collector-from .ensures .1)
+    (c .before .before .before .before .before .before .collect .ensures)
+    (ap wentOn (sym (c .before .before .before .before .before .step-result .ensures)) ∙
+    (sym (c .before .before .before .before .went-on .ensures) ∙ c .before .before .before .if1 .taken))
     in
     small .2
 
@@ -53,26 +57,39 @@ cast-t24 c =
     let a = c .before .before .before .before .before .before .before .before .before .before .before .before .before .before .before .args in
     let t = c .before .before .before .before .before .before .before .before .collect .result in
     let small =
-    step-small (c .before .before .before .before .before .before .before .before .before .before .collector-from .result) (a .lump .now) (a .at) (a .line .now) t (c .before .before .before .before .before .before .before .before .collect .last .1 .1 .1 .0)
-    (c .before .before .before .before .before .before .before .before .before .before .collector-from .ensures .1) (c .before .before .before .before .before .before .before .before .collect .ensures)
-    (ap wentOn (sym (c .before .before .before .before .before .before .before .step-result .ensures)) ∙ (sym (c .before .before .before .before .before .before .went-on .ensures) ∙ c .before .before .before .before .before .if1 .taken))
+    step-small (c .before .before .before .before .before .before .before .before .before .before .collector-from .result) (a .lump .now) (a .at)
+    (a .line .now) t (c .before .before .before .before .before .before .before .before .collect .last .1 .1 .1 .0)
+    (c .before .before .before .before .before .before .before .before .before .before .collector-from .ensures .1)
+    (c .before .before .before .before .before .before .before .before .collect .ensures)
+    (ap wentOn (sym (c .before .before .before .before .before .before .before .step-result .ensures)) ∙
+    (sym (c .before .before .before .before .before .before .went-on .ensures) ∙ c .before .before .before .before .before .if1 .taken))
     in
     omega (arith, small .1)
 
 returns : tie.Need-returns
 returns c =
     let a = c .before .before .before .before .before .before .before .before .before .before .before .before .before .before .before .before .args in
-    went (a .«record» .now) (a .held .now) (a .got .now) (a .lump .now) (a .line .now) (a .at) (c .before .before .before .before .before .before .before .before .before .before .before .collector-from .result) (c .before .before .before .before .before .before .before .before .before .collect .result)
-    (c .before .before .before .before .before .before .before .before .before .collect .last .1 .1 .1 .0) (c .before .before .store-collector .last .0) (c .before .before .store-collector .last .1 .0) (c .before .before .before .before .before .before .before .before .step-result .result)
-    (c .before .before .before .before .before .step-length .result) (c .before .before .before .before .before .before .before .before .before .before .before .collector-from .ensures .0) (c .before .before .before .before .before .before .before .before .before .collect .ensures) (c .before .before .before .before .before .before .before .before .step-result .ensures)
-    (sym (c .before .before .before .before .before .before .before .went-on .ensures) ∙ c .before .before .before .before .before .before .if1 .taken) (c .before .before .before .before .before .step-length .ensures) (c .before .before .store-collector .ensures .0)
+    went (a .«record» .now) (a .held .now) (a .got .now) (a .lump .now) (a .line .now) (a .at)
+    (c .before .before .before .before .before .before .before .before .before .before .before .collector-from .result)
+    (c .before .before .before .before .before .before .before .before .before .collect .result)
+    (c .before .before .before .before .before .before .before .before .before .collect .last .1 .1 .1 .0)
+    (c .before .before .store-collector .last .0) (c .before .before .store-collector .last .1 .0)
+    (c .before .before .before .before .before .before .before .before .step-result .result)
+    (c .before .before .before .before .before .step-length .result)
+    (c .before .before .before .before .before .before .before .before .before .before .before .collector-from .ensures .0)
+    (c .before .before .before .before .before .before .before .before .before .collect .ensures)
+    (c .before .before .before .before .before .before .before .before .step-result .ensures)
+    (sym (c .before .before .before .before .before .before .before .went-on .ensures) ∙ c .before .before .before .before .before .before .if1 .taken)
+    (c .before .before .before .before .before .step-length .ensures) (c .before .before .store-collector .ensures .0)
     (c .before .before .store-collector .ensures .1)
 
 returns-2 : tie.Need-returns-2
 returns-2 c =
     let a = c .before .before .before .before .before .before .before .before .before .before .args in
-    stayed (a .«record» .now) (a .held .now) (a .got .now) (a .lump .now) (a .line .now) (a .at) (c .before .before .before .before .before .collector-from .result) (c .before .before .before .collect .result)
-    (c .before .before .before .collect .last .1 .1 .1 .0) (c .before .before .step-result .result) (c .before .before .before .before .before .collector-from .ensures .0) (c .before .before .before .collect .ensures)
+    stayed (a .«record» .now) (a .held .now) (a .got .now) (a .lump .now) (a .line .now) (a .at)
+    (c .before .before .before .before .before .collector-from .result) (c .before .before .before .collect .result)
+    (c .before .before .before .collect .last .1 .1 .1 .0) (c .before .before .step-result .result)
+    (c .before .before .before .before .before .collector-from .ensures .0) (c .before .before .before .collect .ensures)
     (c .before .before .step-result .ensures) (sym (c .before .went-on .ensures) ∙ c .if1 .left)
 
 pub bg-collect-spec : {M : Type 1} → statement M

@@ -17,11 +17,19 @@ returns-2 : tie.Need-returns-2
 returns-2 c = sym (collect-long _ _ _ _ (sym (c .before .before .is-impossible .ensures) ∙ c .before .if1 .left) (c .if2 .taken))
 
 step-requires : tie.Need-step-requires
-step-requires c κs = (search needs, possible-count _ (sym (c .before .before .before .is-impossible .ensures) ∙ c .before .before .if1 .left), omega (arith, c .before .if2 .left), c .step-arg .given .0 .1)
+step-requires c κs = (
+  search needs,
+  possible-count _ (sym (c .before .before .before .is-impossible .ensures) ∙ c .before .before .if1 .left),
+  omega
+      (arith, c .before .if2 .left),
+  c .step-arg .given .0 .1,
+)
 
 returns-3 : tie.Need-returns-3
 returns-3 c =
-    c .step .ensures ∙ sym (collect-steps _ _ _ _ (sym (c .before .before .before .before .is-impossible .ensures) ∙ c .before .before .before .if1 .left) (omega (arith, c .before .before .if2 .left)))
+    c .step .ensures ∙ sym
+    (collect-steps _ _ _ _ (sym (c .before .before .before .before .is-impossible .ensures) ∙ c .before .before .before .if1 .left)
+    (omega (arith, c .before .before .if2 .left)))
 
 pub collect-spec : {M : Type 1} → statement M
 collect-spec =

@@ -44,8 +44,10 @@ same-length c =
     let a = c .before .before .before .before .before .before .before .before .before .before .before .before .before .before .args in
     let pre = c .before .before .before .before .before .before .before .before .before .before .before .before .before .before .pre in
     let begun =
-    line-begun (a .self) (a .x .now) (a .line .now) (c .before .before .before .before .before .before .put .last .0) (c .before .before .put2 .last .0) (pre .0) (pre .3)
-    (omega (arith, c .before .before .before .before .before .before .before .before .before .before .if2 .left)) (c .before .before .before .before .before .before .put .ensures) (c .before .before .put2 .ensures)
+    line-begun (a .self) (a .x .now) (a .line .now) (c .before .before .before .before .before .before .put .last .0)
+    (c .before .before .put2 .last .0) (pre .0) (pre .3)
+    (omega (arith, c .before .before .before .before .before .before .before .before .before .before .if2 .left))
+    (c .before .before .before .before .before .before .put .ensures) (c .before .before .put2 .ensures)
     in
     simp (length-set, begun .1) (sym (pre .3))
 
@@ -54,10 +56,14 @@ returns-3 c =
     let a = c .before .before .before .before .before .before .before .before .before .before .before .before .before .before .args in
     let pre = c .before .before .before .before .before .before .before .before .before .before .before .before .before .before .pre in
     let begun =
-    line-begun (a .self) (a .x .now) (a .line .now) (c .before .before .before .before .before .before .put .last .0) (c .before .before .put2 .last .0) (pre .0) (pre .3)
-    (omega (arith, c .before .before .before .before .before .before .before .before .before .before .if2 .left)) (c .before .before .before .before .before .before .put .ensures) (c .before .before .put2 .ensures)
+    line-begun (a .self) (a .x .now) (a .line .now) (c .before .before .before .before .before .before .put .last .0)
+    (c .before .before .put2 .last .0) (pre .0) (pre .3)
+    (omega (arith, c .before .before .before .before .before .before .before .before .before .before .if2 .left))
+    (c .before .before .before .before .before .before .put .ensures) (c .before .before .put2 .ensures)
     in
-    saying-line (a .self) (a .x .now) (a .line .now) (c .before .before .put2 .last .0) (pre .0) (pre .3) (omega (arith, c .before .before .before .before .before .before .before .before .before .before .if2 .left)) (c .before .before .before .before .before .before .before .before .before .before .before .if1 .left) begun
+    saying-line (a .self) (a .x .now) (a .line .now) (c .before .before .put2 .last .0) (pre .0) (pre .3)
+    (omega (arith, c .before .before .before .before .before .before .before .before .before .before .if2 .left))
+    (c .before .before .before .before .before .before .before .before .before .before .before .if1 .left) begun
 
 pub end-spec : {M : Type 1} → statement M
 end-spec =

@@ -28,7 +28,8 @@ with-requires c κs = search needs
 returns-2 : tie.Need-returns-2
 returns-2 c =
     let a = c .before .before .before .before .before .before .before .args in
-    step-rest (a .self) (a .lump .now) (a .at) (a .line .now) _ _ (c .before .before .before .before .if1 .left) (c .before .before .before .first-newline .ensures .0) (c .before .before .if2 .taken) (c .with .ensures)
+    step-rest (a .self) (a .lump .now) (a .at) (a .line .now) _ _ (c .before .before .before .before .if1 .left)
+    (c .before .before .before .first-newline .ensures .0) (c .before .before .if2 .taken) (c .with .ensures)
 
 sub-end : tie.Need-sub-end
 sub-end c = search needs
@@ -53,7 +54,10 @@ same-length c = search needs
 
 returns-3 : tie.Need-returns-3
 returns-3 c =
-    step-line _ _ _ _ _ _ _ _ (c .before .before .before .before .before .before .before .before .if1 .left) (c .before .before .before .before .before .before .before .first-newline .ensures .0) (c .before .before .before .before .before .before .before .first-newline .ensures .1) (c .before .before .before .before .before .before .if2 .left) (c .before .before .before .end .ensures)
+    step-line _ _ _ _ _ _ _ _ (c .before .before .before .before .before .before .before .before .if1 .left)
+    (c .before .before .before .before .before .before .before .first-newline .ensures .0)
+    (c .before .before .before .before .before .before .before .first-newline .ensures .1)
+    (c .before .before .before .before .before .before .if2 .left) (c .before .before .before .end .ensures)
     (c .new .ensures)
 
 pub step-spec : {M : Type 1} → statement M

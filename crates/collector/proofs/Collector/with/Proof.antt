@@ -26,7 +26,8 @@ put-requires c κs = search needs
 
 returns-3 : tie.Need-returns-3
 returns-3 c =
-    rw (c .before .put .ensures) (sym (longer-held _ _ (c .before .before .before .before .before .before .if1 .left) (c .before .before .before .before .if2 .left)))
+    rw (c .before .put .ensures)
+    (sym (longer-held _ _ (c .before .before .before .before .before .before .if1 .left) (c .before .before .before .before .if2 .left)))
 
 pub with-spec : {M : Type 1} → statement M
 with-spec =
