@@ -51,7 +51,7 @@ struct result {
 
 static const uint64_t no_bytes = 14695981039346656037u;
 
-static size_t image_len, slot_size, body_size, leave_last, lump_size, line_count, step_count, out_len, request_count, reply_count;
+static size_t image_len, layout[BG_LAYOUT], body_size, leave_last, lump_size, line_count, step_count, out_len, request_count, reply_count;
 static size_t request_stride = PACKET;
 static uint8_t *image, *lines, *out, *memory, *requests, *replies;
 static uint32_t *line_lens, *request_lens, *reply_lens, *numbers_read;
@@ -162,7 +162,7 @@ static void run_handle(void)
     memcpy(session, begun, sizeof session);
     memcpy(tag, begun_tag, sizeof tag);
     for (size_t i = first_request; i < request_count; i++) {
-        if (port->handle(memory, image_len, 0, slot_size, session, tag, requests + i * request_stride, request_lens[i], replies + i * PACKET,
+        if (port->handle(layout, memory, image_len, session, tag, requests + i * request_stride, request_lens[i], replies + i * PACKET,
                          PACKET, answer) != 0)
             fail("a request was refused");
         reply_lens[i] = answer[0];
@@ -201,8 +201,8 @@ static void upload(bool framed)
     uint32_t session[4], answer[2], numbers[12], length;
     uint8_t tag[32], image_tag[32], sequence = 0;
     memset(image_tag, 7, sizeof image_tag);
-    if (port->configure(0, image_len, image_len, session, tag) != 0)
-        fail("the slot was refused");
+    if (port->configure(layout, image_len, session, tag) != 0)
+        fail("the layout was refused");
     request_count = 0;
     for (size_t off = 0; off < image_len; off = numbers[8]) {
         size_t data = image_len - off < DATA ? image_len - off : DATA;
@@ -214,7 +214,7 @@ static void upload(bool framed)
             got_len = pass(request, length, come);
             got = come;
         }
-        if (port->handle(memory, image_len, 0, image_len, session, tag, got, got_len, reply, PACKET, answer) != 0)
+        if (port->handle(layout, memory, image_len, session, tag, got, got_len, reply, PACKET, answer) != 0)
             fail("a request was refused");
         uint32_t read_len = answer[0];
         if (framed) {
@@ -300,7 +300,7 @@ static void make_chunks(void)
             fail("an upload was refused");
         request_count++;
     }
-    if (port->handle(memory, image_len, 0, image_len, begun, begun_tag, requests, request_lens[0], replies, PACKET, answer) != 0)
+    if (port->handle(layout, memory, image_len, begun, begun_tag, requests, request_lens[0], replies, PACKET, answer) != 0)
         fail("a request was refused");
     reply_lens[0] = answer[0];
     first_request = 1;
@@ -364,14 +364,43 @@ static void make_erases(void)
     request_count = ERASES;
 }
 
+/* Writes an image at a place: a header of 32 bytes, a body, and a TLV area of one entry, the hash. */
+static void put_image(uint8_t *to, size_t body)
+{
+    const uint8_t header[32] = {
+        0x3D, 0xB8, 0xF3, 0x96, [8] = 32, [12] = (uint8_t)body, (uint8_t)(body >> 8), (uint8_t)(body >> 16), [20] = 1, 20, 0x39, 0x30,
+    };
+    const uint8_t area[8] = {0x07, 0x69, 40, 0, 0x10, 0, 32, 0};
+    memcpy(to, header, sizeof header);
+    memcpy(to + 32, image, body);
+    memcpy(to + 32 + body, area, sizeof area);
+    memcpy(to + 40 + body, image, 32);
+}
+
+/* Writes state reads, to a memory whose halves are the two slots, each with an image. */
+static void make_list(void)
+{
+    size_t half = image_len / 2;
+    memcpy(layout, (size_t[]){0, half, half, half}, sizeof layout);
+    put_image(memory, body_size);
+    put_image(memory + half, body_size);
+    for (size_t i = 0; i < MAPS; i++) {
+        uint8_t *at = requests + i * PACKET;
+        request_lens[i] = put_header(at, at + 8, 0, 1, i, 0);
+    }
+    request_count = MAPS;
+}
+
 /* The bytes of a family's pair; gives the family's header. */
 static const uint8_t *read_family(const char *from, uint8_t pair[STRIDE], size_t *length)
 {
     static const struct command {
         const char *name;
         uint8_t header[8];
-    } commands[] = {{"echo-", {2, 0, 0, 0}}, {"reset-", {2, 0, 0, 5}}, {"upload-", {2, 0, 1, 1}}, {"erase-", {2, 0, 1, 5}}};
-    for (size_t i = 0; i < 4; i++) {
+    } commands[] = {
+        {"echo-", {2, 0, 0, 0}}, {"reset-", {2, 0, 0, 5}}, {"list-", {0, 0, 1, 0}}, {"upload-", {2, 0, 1, 1}}, {"erase-", {2, 0, 1, 5}},
+    };
+    for (size_t i = 0; i < sizeof commands / sizeof *commands; i++) {
         size_t name = strlen(commands[i].name);
         unsigned byte;
         if (strncmp(from, commands[i].name, name) != 0)
@@ -400,7 +429,7 @@ static void make_family(size_t most)
     for (size_t i = 0; i < request_count; i++)
         request_lens[i] = request_lens[0];
     request_stride = 0;
-    slot_size = 1;
+    layout[BG_LAYOUT_SLOT_SIZE] = 1;
 }
 
 /* Writes one request of a family, as long as a request may be. */
@@ -482,7 +511,15 @@ static struct result answered(void)
 static struct result erased(void)
 {
     struct result result = answered();
-    result.bytes = result.calls * slot_size;
+    result.bytes = result.calls * layout[BG_LAYOUT_SLOT_SIZE];
+    return result;
+}
+
+/* The lists, whose bytes are counted, and the memory. */
+static struct result listed(void)
+{
+    struct result result = answered();
+    result.bytes = total(reply_lens, reply_count);
     return result;
 }
 
@@ -527,6 +564,8 @@ static const struct path {
     {"chunks", make_chunks, run_handle, answered, 0, 0, 0},
     {"unknown", make_unknown, run_handle, answered, 0, 0, 0},
     {"erase", make_erases, run_handle, erased, 0, 0, 0},
+    {"list0", make_list, run_handle, listed, 0, 0, 0},
+    {"list60000", make_list, run_handle, listed, 60000, 0, 0},
     {"frames", make_upload, run_frames, passed, 0, 0, 0},
     {"upload", make_nothing, run_upload, uploaded, 0, 0, 0},
     {"fill", make_fill, run_handle, answered, 0, 0, 0},
@@ -565,7 +604,7 @@ static void set_up(size_t bytes)
 {
     size_t packets = bytes / DATA + MAPS + 1;
     uint64_t state = 88172645463325252u;
-    image_len = slot_size = bytes;
+    image_len = layout[BG_LAYOUT_SLOT_SIZE] = bytes;
     image = room(bytes);
     memory = room(bytes);
     lines = room((bytes / 64 + 16) * STRIDE);

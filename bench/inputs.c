@@ -460,6 +460,57 @@ static size_t make_long(struct rng *rng, uint8_t op, uint8_t packet[PACKET_MAX])
     return make_packet(rng, op, 0, 0, packet, to.length);
 }
 
+/* Writes a number of two bytes, the low one first. */
+static void put_little(struct writer *to, size_t value)
+{
+    put_byte(to, (uint8_t)value);
+    put_byte(to, (uint8_t)(value >> 8));
+}
+
+/* Writes a TLV area: mostly one SHA-256 entry of 32 bytes, perhaps another among others. */
+static void put_area(struct rng *rng, struct writer *to)
+{
+    static const size_t types[] = {0, 1, 0x11, 0x1000, 0x110, 0x10}, lengths[] = {0, 31, 33, 32};
+    size_t entries = once_in(rng, 2) ? 1 : below(rng, 4), hash = below(rng, entries + 1);
+    to->length += 4;
+    for (size_t i = 0; i < entries; i++) {
+        bool is_hash = i == hash || once_in(rng, entries == 1 ? 1 : 8);
+        size_t length = is_hash ? (once_in(rng, 10) ? PICK(rng, lengths) : 32) : below(rng, 9);
+        put_little(to, is_hash ? 0x10 : PICK(rng, types));
+        put_little(to, length);
+        put_bytes(to, some(rng, length));
+    }
+    struct writer head = {to->bytes, 0, 4};
+    put_little(&head, 0x6907);
+    put_little(&head, to->length);
+}
+
+/* Puts an image to a region's start, as much of it as there is room for; valid, or with a bit or a size changed. */
+void make_image(struct rng *rng, uint8_t *region, size_t size)
+{
+    uint8_t bytes[32] = {0x3D, 0xB8, 0xF3, 0x96, [8] = 32}, area[256];
+    struct writer entries = {area, 0, sizeof area}, to = {region, 0, size};
+    put_area(rng, &entries);
+    size_t whole = sizeof bytes + entries.length, left = size > whole ? size - whole : 0;
+    size_t header = once_in(rng, 4) ? below(rng, (left < 40 ? left : 40) + 1) : 0;
+    size_t body = once_in(rng, 3) ? left - header : below(rng, left - header + 1), less = once_in(rng, 20), said = body + less;
+    if (once_in(rng, 12))
+        said = once_in(rng, 2) ? body + below(rng, 3) - 1 : UINT32_MAX - below(rng, 40);
+    bytes[8] = (uint8_t)(32 + header - less);
+    for (size_t i = 0; i < 4; i++)
+        bytes[12 + i] = (uint8_t)(said >> 8 * i);
+    fill(rng, bytes + 20, 12);
+    for (size_t i = 20; once_in(rng, 2) && i < 24; i++)
+        bytes[i] = (uint8_t)(i == 23 ? 0 : below(rng, 120));
+    if (once_in(rng, 5))
+        bytes[below(rng, 20)] ^= (uint8_t)(1u << below(rng, 8));
+    if (once_in(rng, 5))
+        area[below(rng, entries.length < 12 ? entries.length : 12)] ^= (uint8_t)(1u << below(rng, 8));
+    put_bytes(&to, (struct string){bytes, sizeof bytes});
+    to.length += to.length + header + body < size ? header + body : 0;
+    put_bytes(&to, (struct string){area, entries.length});
+}
+
 /* A request for a controller as it stands. */
 size_t make_request(struct rng *rng, const struct device *device, uint8_t packet[PACKET_MAX])
 {
@@ -469,7 +520,7 @@ size_t make_request(struct rng *rng, const struct device *device, uint8_t packet
     struct map map = {.length = 0};
     uint8_t op = 2, command = 0;
     uint16_t group = 0;
-    size_t which = below(rng, 20);
+    size_t which = below(rng, 22);
     if (once_in(rng, 2000))
         return make_long(rng, 0, packet);
     if (which < 4) {
@@ -482,6 +533,9 @@ size_t make_request(struct rng *rng, const struct device *device, uint8_t packet
         command = 5;
         if (once_in(rng, 2))
             add_number(&map, (struct string)STRING("slot"), PICK(rng, slots));
+    } else if (which < 8) {
+        op = 0;
+        group = 1;
     } else {
         group = 1;
         command = 1;

@@ -16,7 +16,7 @@ struct rng {
 
 /* The controller as a request finds it. */
 struct device {
-    size_t memory_len, start, size;
+    size_t memory_len, start0, size0, start, size;
     uint32_t session[4];
     uint8_t tag[32];
 };
@@ -30,6 +30,7 @@ uint64_t number(struct rng *rng);
 void fill(struct rng *rng, void *to, size_t length);
 void make_tag(struct rng *rng, uint8_t tag[32]);
 
+void make_image(struct rng *rng, uint8_t *region, size_t size);
 size_t make_request(struct rng *rng, const struct device *device, uint8_t packet[PACKET_MAX]);
 size_t make_reply(struct rng *rng, uint8_t packet[PACKET_MAX]);
 

@@ -12,7 +12,7 @@
 #include <stdlib.h>
 #include <string.h>
 
-enum { GUARD = 32, MEMORY_MAX = 1048576 + 64, LONGEST = 65533 };
+enum { GUARD = 32, MEMORY_MAX = 1048576 + 4096, LONGEST = 65533 };
 
 /* The kinds of outcome, each with its name. */
 #define OUTCOMES(is)                                                                                                                    \
@@ -26,12 +26,16 @@ enum { GUARD = 32, MEMORY_MAX = 1048576 + 64, LONGEST = 65533 };
     is(LINE_MORE, "line: more is wanted") is(LINE_CRC, "line: more, the first CRC byte kept") is(LINE_BODY, "line: a packet")           \
     is(SEND_12, "frame: refused 12") is(SEND_13, "frame: refused 13") is(SEND_ONLY, "frame: the only one")                              \
     is(SEND_FIRST, "frame: the first") is(SEND_MIDDLE, "frame: in the middle") is(SEND_LAST, "frame: the last")                         \
-    is(SLOT_1, "configure: refused 1") is(SLOT_FIXED, "configure: fixed")                                                               \
-    is(ASK_1_SLOT, "request: refused 1, the slot") is(ASK_1_SESSION, "request: refused 1, the session")                                 \
+    is(SLOT_1, "configure: refused 1, the slot") is(SLOT_1_SLOT0, "configure: refused 1, slot 0")                                       \
+    is(SLOT_1_BOTH, "configure: refused 1, a byte in both") is(SLOT_FIXED, "configure: fixed")                                          \
+    is(ASK_1_SLOT, "request: refused 1, the slot") is(ASK_1_SLOT0, "request: refused 1, slot 0")                                        \
+    is(ASK_1_BOTH, "request: refused 1, a byte in both") is(ASK_1_SESSION, "request: refused 1, the session")                           \
     is(ASK_11, "request: refused 11") is(ASK_10_SHORT, "request: refused 10, under 8 bytes")                                            \
     is(ASK_10_LENGTH, "request: refused 10, another length") is(ASK_10_LONG, "request: refused 10, over 65,533 bytes")                  \
     is(ASK_10_OP, "request: refused 10, the op") is(ASK_UNKNOWN, "unknown command: rc 8") is(ECHO_TEXT, "echo: the text")               \
     is(ECHO_3, "echo: rc 3") is(ECHO_7, "echo: rc 7") is(RESET_DONE, "reset: asked") is(RESET_3, "reset: rc 3")                         \
+    is(LIST_NONE, "list: no image") is(LIST_0, "list: slot 0's image") is(LIST_1, "list: slot 1's image")                               \
+    is(LIST_BOTH, "list: both images") is(LIST_3, "list: rc 3") is(LIST_7, "list: rc 7")                                                \
     is(ERASE_DONE, "erase: done") is(ERASE_3, "erase: rc 3") is(UPLOAD_3, "upload: rc 3") is(UPLOAD_8, "upload: rc 8")                  \
     is(UPLOAD_NONE, "upload: told 0, no session") is(UPLOAD_TOLD, "upload: told n, another offset") is(UPLOAD_ADDED, "upload: added")   \
     is(UPLOAD_END, "upload: added to the end") is(UPLOAD_RESUMED, "upload: resumed") is(UPLOAD_TAGGED, "upload: started, with a tag")   \
@@ -295,27 +299,68 @@ static void check_send(void)
         met(count == 1 ? SEND_ONLY : k == 0 ? SEND_FIRST : k == count - 1 ? SEND_LAST : SEND_MIDDLE);
 }
 
-/* A slot region, possible or not. */
+/* Why a layout is impossible: 0 the slot, 1 slot 0, 2 a byte in both; 3 where it is possible. */
+static unsigned why_1(const size_t layout[BG_LAYOUT], size_t room)
+{
+    size_t start0 = layout[0], size0 = layout[1], start = layout[2], size = layout[3];
+    if (size == 0 || size > 1048576 || size > room || start > room - size)
+        return 0;
+    if (size0 > room || start0 > room - size0)
+        return 1;
+    return size0 > 0 && start0 < start + size && start < start0 + size0 ? 2 : 3;
+}
+
+/* A place of slot 0 beside another region, in it, or anywhere, that touches it or not. */
+static uint64_t make_start0(uint64_t start, uint64_t size, uint64_t size0)
+{
+    switch (below(&rng, 4)) {
+    case 0:
+        return start - size0 + below(&rng, 3) - 1;
+    case 1:
+        return start + size + below(&rng, 3) - 1;
+    case 2:
+        return start + below(&rng, size < 100 ? (size_t)size + 1 : 100);
+    default:
+        return number(&rng);
+    }
+}
+
+/* A layout, possible or not. */
 static void check_configure(void)
 {
     uint64_t size = once_in(&rng, 3) ? number(&rng) : range(&rng, 1, 1048576);
     uint64_t start = once_in(&rng, 3) ? number(&rng) : once_in(&rng, 3) ? 0 - size + below(&rng, 3) - 1 : below(&rng, 5000000);
-    uint64_t room = once_in(&rng, 4) ? number(&rng) : start + size + below(&rng, 3) - 1;
+    uint64_t size0 = once_in(&rng, 3) ? number(&rng) : once_in(&rng, 3) ? 0 : below(&rng, 3000000);
+    uint64_t start0 = make_start0(start, size, size0), end0 = start0 + size0, end = start + size;
+    uint64_t room = once_in(&rng, 4) ? number(&rng) : (end0 > end && once_in(&rng, 2) ? end0 : end) + below(&rng, 3) - 1;
+    const size_t layout[BG_LAYOUT] = {start0, size0, start, size};
     lend_numbers();
-    uint32_t said = bg_configure(start, size, room, lent[0].record, lent[0].tag);
-    hold_numbers("configure", said, plain_configure(start, size, room, lent[1].record, lent[1].tag));
-    met(said == 0 ? SLOT_FIXED : SLOT_1);
+    uint32_t said = bg_configure(layout, room, lent[0].record, lent[0].tag);
+    hold_numbers("configure", said, plain_configure(layout, room, lent[1].record, lent[1].tag));
+    met(said == 0 ? SLOT_FIXED : SLOT_1 + why_1(layout, room));
 }
 
-/* A controller with a slot somewhere in a memory, mostly a small one, and a closed session. */
+/* A controller with two slots somewhere in a memory, mostly small ones, often with images, and a closed session. */
 static struct device make_device(void)
 {
-    struct device device = {.size = range(&rng, 1, once_in(&rng, 8) ? 2000 : 80)};
+    struct device device = {.size = range(&rng, 1, once_in(&rng, 8) ? 2000 : once_in(&rng, 2) ? 240 : 80)};
+    device.size0 = once_in(&rng, 6) ? 0 : below(&rng, once_in(&rng, 8) ? 2000 : 240);
     if (once_in(&rng, 20000))
         device.size = 1048576 - below(&rng, 3);
-    device.start = once_in(&rng, 3) ? 0 : below(&rng, 30);
-    device.memory_len = device.start + device.size + (once_in(&rng, 3) ? 0 : below(&rng, 30));
+    bool before = once_in(&rng, 2);
+    size_t *first = before ? &device.start0 : &device.start, *second = before ? &device.start : &device.start0;
+    size_t first_size = before ? device.size0 : device.size, second_size = before ? device.size : device.size0;
+    *first = once_in(&rng, 3) ? 0 : below(&rng, 30);
+    *second = *first + first_size + (once_in(&rng, 3) ? 0 : below(&rng, 30));
+    device.memory_len = *second + second_size + (once_in(&rng, 3) ? 0 : below(&rng, 30));
+    if (device.size0 == 0)
+        device.start0 = below(&rng, device.memory_len + 1);
     lend(&memory, device.memory_len);
+    if (!once_in(&rng, 4))
+        make_image(&rng, memory.of[0] + device.start0, device.size0);
+    if (!once_in(&rng, 4))
+        make_image(&rng, memory.of[0] + device.start, device.size);
+    memcpy(memory.of[1], memory.of[0], device.memory_len);
     return device;
 }
 
@@ -338,10 +383,10 @@ static void make_session(struct device *device)
         memset(device->tag, 0, sizeof device->tag);
 }
 
-/* Makes a slot or a session record impossible, or nearly so. */
+/* Makes a layout or a session record impossible, or nearly so. */
 static void spoil_device(struct device *device)
 {
-    switch (below(&rng, 6)) {
+    switch (below(&rng, 8)) {
     case 0:
         device->session[1] = once_in(&rng, 2) ? (uint32_t)device->size + 1 : (uint32_t)number(&rng);
         break;
@@ -355,6 +400,12 @@ static void spoil_device(struct device *device)
         device->start = once_in(&rng, 2) ? (size_t)number(&rng) : 0 - device->size + below(&rng, 2);
         break;
     case 4:
+        device->size0 = once_in(&rng, 2) ? (size_t)number(&rng) : 0 - device->start0 + below(&rng, 2);
+        break;
+    case 5:
+        device->start0 = make_start0(device->start, device->size, device->size0);
+        break;
+    case 6:
         device->memory_len = below(&rng, device->memory_len + 1);
         lend(&memory, device->memory_len);
         break;
@@ -403,6 +454,16 @@ static enum outcome upload_outcome(const struct device *before, size_t length)
     return same ? UPLOAD_TOLD : new[1] == new[2] ? UPLOAD_END : UPLOAD_ADDED;
 }
 
+/* The outcome of a state read, by its reply: an rc, or how many images it has, the first from which slot. */
+static enum outcome list_outcome(const uint8_t *reply)
+{
+    if (reply[9] == 0x62)
+        return reply[12] == 3 ? LIST_3 : LIST_7;
+    if (reply[16] == 0x81)
+        return reply[23] == 0 ? LIST_0 : LIST_1;
+    return reply[16] == 0x80 ? LIST_NONE : LIST_BOTH;
+}
+
 /* The outcome of a request that was answered. */
 static enum outcome answer_outcome(const struct device *before, size_t length)
 {
@@ -412,6 +473,8 @@ static enum outcome answer_outcome(const struct device *before, size_t length)
         return reply[9] == 0x61 ? ECHO_TEXT : rc == 7 ? ECHO_7 : ECHO_3;
     if (packet[0] == 2 && which == 5)
         return rc == 0 ? RESET_DONE : RESET_3;
+    if (packet[0] == 0 && which == 0x100)
+        return list_outcome(reply);
     if (packet[0] == 2 && which == 0x105)
         return rc == 0 ? ERASE_DONE : ERASE_3;
     if (packet[0] != 2 || which != 0x101)
@@ -430,11 +493,12 @@ static void compare_request(struct device *device, size_t length)
     size_t room = once_in(&rng, 200) ? LONGEST + 9 : range(&rng, 32, once_in(&rng, 2) ? 60 : 400);
     lend(&reply_buffer, once_in(&rng, 16) ? below(&rng, 33) : room);
     const uint8_t *from = or_null(packet, length);
-    uint32_t said = bg_handle(memory.of[0], memory.length, device->start, device->size, lent[0].record, lent[0].tag, from, length,
-                              reply_buffer.of[0], reply_buffer.length, lent[0].answer);
+    const size_t layout[BG_LAYOUT] = {device->start0, device->size0, device->start, device->size};
+    uint32_t said = bg_handle(layout, memory.of[0], memory.length, lent[0].record, lent[0].tag, from, length, reply_buffer.of[0],
+                              reply_buffer.length, lent[0].answer);
     hold_numbers("handle", said,
-                 plain_handle(memory.of[1], memory.length, device->start, device->size, lent[1].record, lent[1].tag, from, length,
-                              reply_buffer.of[1], reply_buffer.length, lent[1].answer));
+                 plain_handle(layout, memory.of[1], memory.length, lent[1].record, lent[1].tag, from, length, reply_buffer.of[1],
+                              reply_buffer.length, lent[1].answer));
     hold("handle", &memory);
     hold("handle", &reply_buffer);
     if (said == 0)
@@ -444,14 +508,14 @@ static void compare_request(struct device *device, size_t length)
     else if (said == 11)
         met(ASK_11);
     else
-        met(bg_configure(device->start, device->size, memory.length, lent[0].record, lent[0].tag) != 0 ? ASK_1_SLOT : ASK_1_SESSION);
+        met(ASK_1_SLOT + why_1(layout, memory.length));
     if (said != 1) {
         memcpy(device->session, lent[0].record, sizeof device->session);
         memcpy(device->tag, lent[0].tag, sizeof device->tag);
     }
 }
 
-/* One request for any slot and session record, possible or not. */
+/* One request for any layout and session record, possible or not. */
 static void check_request(void)
 {
     struct device device = make_device();

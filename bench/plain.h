@@ -24,9 +24,9 @@ uint32_t plain_send_frame(const uint8_t *body, size_t body_len, size_t k, uint8_
 
 /* plain_packet.c */
 
-uint32_t plain_configure(size_t start, size_t size, size_t memory_len, uint32_t session[4], uint8_t tag[32]);
+uint32_t plain_configure(const size_t layout[4], size_t memory_len, uint32_t session[4], uint8_t tag[32]);
 
-uint32_t plain_handle(uint8_t *memory, size_t memory_len, size_t start, size_t size, uint32_t session[4], uint8_t tag[32],
+uint32_t plain_handle(const size_t layout[4], uint8_t *memory, size_t memory_len, uint32_t session[4], uint8_t tag[32],
                       const uint8_t *packet, size_t packet_len, uint8_t *reply, size_t reply_len, uint32_t answer[2]);
 
 uint32_t plain_write_echo(uint8_t sequence, const uint8_t *text, size_t text_len, uint8_t *out, size_t out_len, uint32_t *packet_len);

@@ -5,6 +5,7 @@
 #include <string.h>
 
 enum { HEADER = 8, LONGEST = 65533, REPLY_ROOM = 32, LARGEST_SLOT = 1048576, TAG = 32 };
+enum { IMAGE_HEADER = 32, AREA_HEAD = 4, ENTRY_HEAD = 4, AREA_MAGIC = 0x6907, SHA256 = 0x10, HASH = 32, VERSION_MAX = 13 };
 
 /* The types of a value: CBOR's major types, and FLAG for false and true, NOTHING for null. */
 enum type { UNSIGNED = 0, NEGATIVE = 1, BYTES = 2, TEXT = 3, MAP = 5, SIMPLE = 7, FLAG, NOTHING };
@@ -26,7 +27,7 @@ static const uint8_t type_of[OTHER] = {
 };
 
 /* Whose map it is. */
-enum kind { ECHO, RESET, UPLOAD, ERASE, REPLY, UNKNOWN };
+enum kind { ECHO, RESET, LIST, UPLOAD, ERASE, REPLY, UNKNOWN };
 
 /* A map's known keys: a bit of `seen` for each that came, and its value. */
 struct map {
@@ -42,6 +43,13 @@ struct slot {
     uint8_t *tag;
 };
 
+/* A valid image: its hash, null where there is none, and its version as text. */
+struct image {
+    const uint8_t *hash;
+    uint8_t version[VERSION_MAX];
+    size_t version_len;
+};
+
 /* A number of 2 bytes, the high one first. */
 static inline uint32_t number16(const uint8_t *at)
 {
@@ -52,6 +60,18 @@ static inline uint32_t number16(const uint8_t *at)
 static inline uint32_t number32(const uint8_t *at)
 {
     return (uint32_t)at[0] << 24 | (uint32_t)at[1] << 16 | (uint32_t)at[2] << 8 | at[3];
+}
+
+/* A number of 2 bytes, the low one first. */
+static inline uint32_t little16(const uint8_t *at)
+{
+    return (uint32_t)at[1] << 8 | at[0];
+}
+
+/* A number of 4 bytes, the low one first. */
+static inline uint32_t little32(const uint8_t *at)
+{
+    return little16(at + 2) << 16 | little16(at);
 }
 
 /* Reads the number of a head of 24 to 27; returns the place after it, or null where it is malformed. */
@@ -256,10 +276,19 @@ static inline bool right_length(const uint8_t *packet, size_t packet_len)
     return packet_len >= HEADER && packet_len <= LONGEST && packet_len == HEADER + number16(packet + 2);
 }
 
-/* The slot is 1 to 1,048,576 bytes and ends inside the memory. */
-static inline bool possible_slot(size_t start, size_t size, size_t memory_len)
+/* A region ends inside the memory. */
+static inline bool lies_in(size_t start, size_t size, size_t memory_len)
 {
-    return size >= 1 && size <= LARGEST_SLOT && size <= memory_len && start <= memory_len - size;
+    return size <= memory_len && start <= memory_len - size;
+}
+
+/* The slot is 1 to 1,048,576 bytes, both regions end inside the memory, and no byte is in both. */
+static inline bool possible_layout(const size_t layout[4], size_t memory_len)
+{
+    size_t start0 = layout[0], size0 = layout[1], start = layout[2], size = layout[3];
+    if (size < 1 || size > LARGEST_SLOT || !lies_in(start, size, memory_len) || !lies_in(start0, size0, memory_len))
+        return false;
+    return size0 == 0 || start0 + size0 <= start || start + size <= start0;
 }
 
 /* The session is closed, or open with a length of 1 to the slot's size and a place of 1 to the length. */
@@ -275,10 +304,10 @@ static void close_session(uint32_t session[4], uint8_t tag[TAG])
     memset(tag, 0, TAG);
 }
 
-/* Fixes a slot and closes its session. */
-uint32_t plain_configure(size_t start, size_t size, size_t memory_len, uint32_t session[4], uint8_t tag[32])
+/* Fixes a layout and closes its session. */
+uint32_t plain_configure(const size_t layout[4], size_t memory_len, uint32_t session[4], uint8_t tag[32])
 {
-    if (!possible_slot(start, size, memory_len))
+    if (!possible_layout(layout, memory_len))
         return 1;
     close_session(session, tag);
     return 0;
@@ -317,6 +346,88 @@ static uint8_t *erase(const struct map *map, const struct slot *slot, uint8_t *t
     memset(slot->bytes, 255, slot->size);
     close_session(slot->session, slot->tag);
     return put_rc(to, 0);
+}
+
+/* The bytes of the one SHA-256 entry, of 32 bytes, among entries that end exactly at a place; null where it is not so. */
+static const uint8_t *find_hash(const uint8_t *at, const uint8_t *end)
+{
+    const uint8_t *hash = NULL;
+    while (at < end) {
+        if (end - at < ENTRY_HEAD)
+            return NULL;
+        uint32_t type = little16(at), length = little16(at + 2);
+        at += ENTRY_HEAD;
+        if ((size_t)(end - at) < length)
+            return NULL;
+        if (type == SHA256) {
+            if (hash != NULL || length != HASH)
+                return NULL;
+            hash = at;
+        }
+        at += length;
+    }
+    return hash;
+}
+
+/* The hash of the valid image in a region; null where there is none. */
+static const uint8_t *hash_in(const uint8_t *region, size_t size)
+{
+    if (size < IMAGE_HEADER + AREA_HEAD || little32(region) != 0x96F3B83D || little32(region + 4) != 0)
+        return NULL;
+    size_t header = little16(region + 8), area = header + little32(region + 12);
+    if (header < IMAGE_HEADER || little16(region + 10) != 0 || little32(region + 16) != 0 || area > size - AREA_HEAD)
+        return NULL;
+    size_t total = little16(region + area + 2);
+    if (little16(region + area) != AREA_MAGIC || total < AREA_HEAD || total > size - area)
+        return NULL;
+    return find_hash(region + area + AREA_HEAD, region + area + total);
+}
+
+/* Writes a number of up to 16 bits in decimal; returns the place after it. */
+static uint8_t *put_decimal(uint8_t *to, uint32_t number)
+{
+    size_t digits = number < 10 ? 1 : number < 100 ? 2 : number < 1000 ? 3 : number < 10000 ? 4 : 5;
+    for (size_t i = digits; i > 0; i--, number /= 10)
+        to[i - 1] = (uint8_t)('0' + number % 10);
+    return to + digits;
+}
+
+/* Reads the image in a region; gives the length of its map in the list, 0 where there is none. */
+static size_t read_image(const uint8_t *region, size_t size, struct image *image)
+{
+    image->hash = hash_in(region, size);
+    if (image->hash == NULL)
+        return 0;
+    uint8_t *to = put_decimal(image->version, region[20]);
+    *to++ = '.';
+    to = put_decimal(to, region[21]);
+    *to++ = '.';
+    image->version_len = (size_t)(put_decimal(to, little16(region + 22)) - image->version);
+    return 55 + image->version_len;
+}
+
+/* Writes an image's map, of a slot; returns the place after it. */
+static uint8_t *put_image(uint8_t *to, uint8_t slot, const struct image *image)
+{
+    if (image->hash == NULL)
+        return to;
+    to = put(to, "\xA3\x64slot", 6);
+    *to++ = slot;
+    to = put_string(put(to, "\x67version", 8), TEXT, image->version, image->version_len);
+    return put(put(to, "\x64hash\x58\x20", 7), image->hash, HASH);
+}
+
+/* Lists the images of both slots, or rc 7; returns the place after the reply. */
+static uint8_t *list(const size_t layout[4], const uint8_t *memory, uint8_t *to, size_t room)
+{
+    struct image first, second;
+    size_t length = 9 + read_image(memory + layout[0], layout[1], &first);
+    length += read_image(memory + layout[2], layout[3], &second);
+    if (length > room)
+        return put_rc(to, 7);
+    to = put(to, "\xA1\x66images", 8);
+    *to++ = (uint8_t)(0x80 + (first.hash != NULL) + (second.hash != NULL));
+    return put_image(put_image(to, 0, &first), 1, &second);
 }
 
 /* Adds a chunk at an offset above 0, where it is the next; returns the place after the reply. */
@@ -387,6 +498,8 @@ static enum kind kind_of(uint8_t op, uint32_t group, uint8_t command)
         return ECHO;
     if (op == 2 && group == 0 && command == 5)
         return RESET;
+    if (op == 0 && group == 1 && command == 0)
+        return LIST;
     if (op == 2 && group == 1 && command == 1)
         return UPLOAD;
     if (op == 2 && group == 1 && command == 5)
@@ -403,17 +516,17 @@ static uint8_t *reset(const struct slot *slot, uint8_t *to, uint32_t *asked)
 }
 
 /* Takes one request. */
-uint32_t plain_handle(uint8_t *memory, size_t memory_len, size_t start, size_t size, uint32_t session[4], uint8_t tag[32],
+uint32_t plain_handle(const size_t layout[4], uint8_t *memory, size_t memory_len, uint32_t session[4], uint8_t tag[32],
                       const uint8_t *packet, size_t packet_len, uint8_t *reply, size_t reply_len, uint32_t answer[2])
 {
-    if (!possible_slot(start, size, memory_len) || !possible_session(session, size))
+    if (!possible_layout(layout, memory_len) || !possible_session(session, layout[3]))
         return 1;
     if (reply_len < REPLY_ROOM)
         return 11;
     if (!right_length(packet, packet_len) || (packet[0] != 0 && packet[0] != 2))
         return 10;
 
-    struct slot slot = {memory + start, size, session, tag};
+    struct slot slot = {memory + layout[2], layout[3], session, tag};
     struct map map;
     uint32_t group = number16(packet + 4), asked = 0;
     enum kind kind = kind_of(packet[0], group, packet[7]);
@@ -430,6 +543,8 @@ uint32_t plain_handle(uint8_t *memory, size_t memory_len, size_t start, size_t s
         to = echo(&map, to, reply_len - HEADER);
     else if (kind == ERASE)
         to = erase(&map, &slot, to);
+    else if (kind == LIST)
+        to = list(layout, memory, to, reply_len - HEADER);
     else
         to = reset(&slot, to, &asked);
     put_header(reply, packet[0] + 1, group, packet[6], packet[7], to);

@@ -30,12 +30,14 @@ PATHS = {
     "unknown": "requests of 24 unknown pairs",
     "worst": "the costliest request",
     "erase": "erase requests handled",
+    "list0": "image lists, no bodies",
+    "list60000": "image lists, bodies of 60,000",
     "frames": "an upload's frames alone",
     "upload": "whole upload",
 }
 # The paths whose calls are counted too.
 CALLS = ["collect256", "collect64", "collect16", "collect1", "reply", "echo", "pairs", "handle", "chunks", "unknown", "worst",
-         "erase"]
+         "erase", "list0", "list60000"]
 # The paths with a CRC, each with the long paths that say what it costs.
 WITH_CRC = {"send": ["sendlong"], "sendlong": ["sendlong"], "read": ["readlong"], "readlong": ["readlong"],
             "frames": ["sendlong", "readlong"], "upload": ["sendlong", "readlong"]}
@@ -180,7 +182,7 @@ def costliest(m):
     others = ", ".join(f"{NAMES[p]} {number(m.a_byte('worst', p))}" for p in OTHERS)
     call = number(m.a_call("worst", "archive"), "{:,.0f}")
     said = wrapped(f"""`bench/worst.py` tries {m.families:,} families of requests: one pair of an unknown key again and
-        again, as upload, echo, reset and erase; empty keys, keys of one character, keys that differ from a known one in
+        again, as upload, echo, reset, erase and state read; empty keys, keys of one character, keys that differ from a known one in
         the last character, long ones; heads of all widths; values of all types. The one that costs the archive most by
         the byte is {pair(m.worst[0][1])} (hexadecimal). At 65,533 bytes, which is the path "{PATHS["worst"]}", it takes
         {call} instructions, {number(m.a_byte("worst", "archive"))} a byte; {others}. The costliest of each kind, in
@@ -197,6 +199,13 @@ def wall_clock(m):
     said = wrapped("""Millions of bytes a second, the best of 21 rounds (3 runs of 7, the programs in turns), on a machine
         that other work may share: these vary from run to run, the counts above hardly.""")
     return said + "\n\n" + table(["path"] + list(NAMES.values()), lines)
+
+
+def bodies(m):
+    """What a list costs, by the bodies of its images."""
+    small, large = (number(m.a_call(path, "archive"), "{:,.0f}") for path in ("list0", "list60000"))
+    return wrapped(f"""The list of two images takes the archive {small} instructions where they have no bodies, and {large}
+        where each body has 60,000 bytes: headers and TLV areas are read, bodies are not.""")
 
 
 def crc_share(m):
@@ -256,6 +265,8 @@ A count by the byte hides what a call costs by itself.
 
 {table(["path", "archive"] + [NAMES[p] for p in OTHERS], calls)}
 
+{bodies(m)}
+
 ## Goal
 
 No path above 1.0 times the best of the others in instructions a byte: C with a table for the CRC, in each of its three
@@ -294,7 +305,9 @@ What the last frame of each body of 65,533 bytes adds, which is where the CRC is
   Requests of 24 unknown pairs: 2,000 of them, in turn echoes, with a text after the same pairs, and resets.
 - Upload requests: the image's chunks in packets of 512 bytes, without the line; the session is open already, so that no
   slot is filled. Erase requests: four of 9 bytes; a byte is a byte of the slot, which is as large as the image. The
-  costliest request: one of 65,533 bytes, handled 16 times, with a slot of one byte.
+  costliest request: one of 65,533 bytes, handled 16 times, with a slot of one byte. In all of these slot 0 is empty.
+- Image lists: 2,000 state reads of 8 bytes, with an image in each slot, whose TLV area is one entry, the hash; a byte is
+  a byte of the reply.
 - Whole upload: requests of 480 data bytes, each written, sent, read, handled, and its reply sent, read and read as a
   reply; a byte is a byte of the image. In the end the slot is compared with the image. "Frames alone": the same
   requests and replies, written beforehand, sent and read.

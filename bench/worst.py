@@ -10,7 +10,7 @@ and of C.
 import subprocess
 import sys
 
-COMMANDS = ["upload", "echo", "reset", "erase"]
+COMMANDS = ["upload", "echo", "reset", "erase", "list"]
 # Keys that no command knows, by kind; those near to known ones differ in the last character alone.
 KEYS = {
     "empty key": [""],

@@ -1,14 +1,16 @@
 /*
- * A controller's firmware: takes uploads into a slot of its memory over a serial line. All its buffers are static. On a
- * board, get and put are the board's own; here the line is descriptors 0 and 1, and at a reset the memory is shown on
- * descriptor 2.
+ * A controller's firmware: takes uploads into a slot of its memory over a serial line, and lists the images there and in
+ * slot 0. All its buffers are static. On a board, get and put are the board's own; here the line is descriptors 0 and 1,
+ * and at a reset the memory is shown on descriptor 2.
  */
 #include <string.h>
 #include <unistd.h>
 
 #include "belagunthi.h"
 
-enum { MEMORY = 65536, SLOT_START = 16384, SLOT = 32768, PACKET = 1024 };
+enum { MEMORY = 65536, SLOT0 = 16384, SLOT_START = 16384, SLOT = 32768, PACKET = 1024 };
+
+static const size_t layout[BG_LAYOUT] = {0, SLOT0, SLOT_START, SLOT};
 
 static uint8_t memory[MEMORY], packet[PACKET], reply[PACKET], frame[BG_LINE], tag[BG_TAG];
 static uint8_t lump[BG_LUMP], held[BG_HELD], line[BG_LINE];
@@ -38,7 +40,7 @@ static int take_line(size_t len)
     uint32_t body = 0, answer[2] = {0, 0}, sent[2] = {0, 1};
 
     if (bg_take_line(reader, line, len, packet, PACKET, &body) != 0 || body == 0 ||
-        bg_handle(memory, MEMORY, SLOT_START, SLOT, session, tag, packet, body, reply, PACKET, answer) != 0) {
+        bg_handle(layout, memory, MEMORY, session, tag, packet, body, reply, PACKET, answer) != 0) {
         return 0;
     }
     for (size_t k = 0; k < sent[1] && bg_send_frame(reply, answer[0], k, frame, sizeof frame, sent) == 0; k++) {
@@ -70,7 +72,7 @@ int main(void)
     size_t len;
 
     memset(memory, 255, MEMORY);
-    if (bg_configure(SLOT_START, SLOT, MEMORY, session, tag) != 0) {
+    if (bg_configure(layout, MEMORY, session, tag) != 0) {
         return 1;
     }
     while ((len = get()) > 0) {

@@ -14,7 +14,7 @@
  *  - The controller's memory is plain memory: a byte that is written is read back, and nothing else writes there during a call. A flash memory that
  *    needs commands is lent as a copy in plain memory.
  *
- * What a controller owes for the promise over a row of calls (see bg_handle): after one bg_configure that returned 0, start and size stay as they were
+ * What a controller owes for the promise over a row of calls (see bg_handle): after one bg_configure that returned 0, the layout stays as it was
  * configured, and memory, session record and tag come back to each call as the last one left them. A reader owes the same of its record and its
  * packet buffer from line to line (see bg_take_line), and of the collector's record and its bytes from step to step (see bg_collect).
  *
@@ -44,8 +44,8 @@ extern "C" {
 #endif
 
 /* The version: major * 10000 + minor * 100 + patch. The major number changes with a promise that a caller may rely on, the minor with a new name. */
-#define BG_VERSION 10100
-#define BG_VERSION_TEXT "1.1.0"
+#define BG_VERSION 20000
+#define BG_VERSION_TEXT "2.0.0"
 
 /* The most stack that a call takes, in bytes. */
 #define BG_STACK 1024
@@ -53,7 +53,7 @@ extern "C" {
 /* What a call returns: done, or the refusal of this number. */
 enum bg_result {
   BG_DONE = 0,
-  BG_IMPOSSIBLE = 1,       /* the slot region, the session record or the collector's record is impossible */
+  BG_IMPOSSIBLE = 1,       /* the layout, the session record or the collector's record is impossible */
   BG_LINE_TOO_LONG = 2,    /* the line is over 127 bytes */
   BG_NO_FRAME = 3,         /* the line is under 3 bytes, has no marker, or no 0A at its end */
   BG_BAD_TEXT = 4,         /* the line's text is not well-formed Base64 */
@@ -86,8 +86,16 @@ enum bg_collector_number { BG_COLLECTOR_COUNT, BG_COLLECTOR_SKIPPING };
 #define BG_READER 4
 
 /*
+ * The layout: { slot 0's start, slot 0's size, the upload slot's start, its size }, two regions of the controller's memory in bytes. Slot 0, that of the
+ * running image, is only ever read; the upload slot is slot 1. The upload slot has 1 to 1,048,576 bytes and slot 0 any number, 0 too; both end inside the
+ * memory, and no byte is in both, so that a slot 0 of no bytes may start at any place up to the memory's end; else the layout is impossible.
+ */
+#define BG_LAYOUT 4
+enum bg_layout_number { BG_LAYOUT_SLOT0_START, BG_LAYOUT_SLOT0_SIZE, BG_LAYOUT_SLOT_START, BG_LAYOUT_SLOT_SIZE };
+
+/*
  * The session record: { open, length, place, tagged }, and beside it its tag of 32 bytes. All 0 is closed; bg_configure gives that. Where open
- * is 0 nothing else of it is looked at; where tagged is 0 the tag is not. An open one has a length of 1 to the slot's size and a place of 1 to
+ * is 0 nothing else of it is looked at; where tagged is 0 the tag is not. An open one has a length of 1 to the upload slot's size and a place of 1 to
  * the length; else it is impossible.
  */
 #define BG_SESSION 4
@@ -155,25 +163,36 @@ uint32_t bg_take_line(uint32_t reader[BG_READER], const uint8_t *line, size_t li
 uint32_t bg_send_frame(const uint8_t *body, size_t body_len, size_t k, uint8_t *out, size_t out_len, uint32_t sent[2]);
 
 /*
- * Says whether a slot that starts at `start` and has `size` bytes is possible in a memory of memory_len bytes: 1 to 1,048,576 bytes, ending
- * inside the memory. Returns 0 and makes the session record and its tag all 0, a closed session; or refuses 1, and they stay.
+ * Says whether a layout is possible in a memory of memory_len bytes (see BG_LAYOUT). Returns 0 and makes the session record and its tag all 0, a closed
+ * session; or refuses 1, and they stay.
  * The memory is not looked at: configuring erases nothing. Configuring again begins a new history.
  */
-uint32_t bg_configure(size_t start, size_t size, size_t memory_len, uint32_t session[BG_SESSION], uint8_t tag[BG_TAG]);
+uint32_t bg_configure(const size_t layout[BG_LAYOUT], size_t memory_len, uint32_t session[BG_SESSION], uint8_t tag[BG_TAG]);
 
 /*
- * Takes one request packet: writes the slot as the upload rules say, and a reply to the start of the reply buffer, whose other bytes stay.
+ * Takes one request packet: writes the upload slot as the upload rules say, and a reply to the start of the reply buffer, whose other bytes stay.
  * Returns 0 with answer = { the reply's length, 1 where a reset is asked, else 0 }, and the session record and tag for the next call: open and
- * tagged are then 0 or 1; a reset or an erase that is answered rc 0 makes all of it 0 (an erase sets the whole slot to 255; one that is answered rc 3, as
- * of another slot than 1, changes nothing); a start writes length, place and the tag, zeros where there is none; data that is added moves place alone;
- * and any other request leaves the other numbers and the tag as they were lent. A request is at most 65,533 bytes long; an echo reply longer than
- * the reply buffer becomes rc 7. An rc other than 0 leaves memory and session. No byte of the memory outside the slot is ever written.
+ * tagged are then 0 or 1; a reset or an erase that is answered rc 0 makes all of it 0 (an erase sets the whole upload slot to 255; one that is answered
+ * rc 3, as of another slot than 1, changes nothing); a start writes length, place and the tag, zeros where there is none; data that is added moves place
+ * alone; and any other request leaves the other numbers and the tag as they were lent. A request is at most 65,533 bytes long; an echo reply longer than
+ * the reply buffer becomes rc 7. An rc other than 0 leaves memory and session. No byte of the memory outside the upload slot is ever written.
  * Refuses 1, 11 and 10, in this order: everything stays.
- * Over a row of calls after bg_configure, the kept arrays untouched between them: whenever a session is open at place n, the slot's first n bytes are
- * the data written since its start, joined in order, and its other bytes are 255; no byte outside the slot has changed; and if that data was cut from
- * one image at the offsets that the requests named, the memory is what one unbroken sending of the image's first n bytes leaves.
+ *
+ * A state read (op 0, group 1, command 0) is answered with {"images": [..]}, without "rc": for slot 0 and then for slot 1, each where it holds a valid
+ * image, a map of "slot" (0 or 1), "version" (text: major.minor.revision, in decimal) and "hash" (the 32 bytes of the image's SHA-256 entry), in this
+ * order. It takes any map, or none; a malformed one is answered rc 3, and then a list longer than the reply buffer rc 7: 153 bytes are always enough. It
+ * writes nothing but the reply, and changes the session no more than an echo does. The slots are read as they stand, a half-written image too; the cost
+ * is that of the headers and TLV areas, not of the bodies.
+ * An image is valid where MCUboot's header at its region's start has the magic 96F3B83D (hexadecimal), load address, protected size and flags 0 and a
+ * header size of at least 32; and where behind header size and image size stands a TLV area that ends in the region: the magic 6907, a total of at least 4,
+ * which counts these 4 bytes, and entries that fill the total exactly, of which exactly one has type 10 (hexadecimal), and that one 32 bytes. Each number
+ * has its low byte first. The hash is not computed, and nothing else is looked at: neither build number nor padding, nor what stands behind the area.
+ *
+ * Over a row of calls after bg_configure, the kept arrays untouched between them: whenever a session is open at place n, the upload slot's first n bytes
+ * are the data written since its start, joined in order, and its other bytes are 255; no byte outside the upload slot has changed, so none of slot 0; and
+ * if that data was cut from one image at the offsets that the requests named, the memory is what one unbroken sending of the image's first n bytes leaves.
  */
-uint32_t bg_handle(uint8_t *memory, size_t memory_len, size_t start, size_t size, uint32_t session[BG_SESSION], uint8_t tag[BG_TAG],
+uint32_t bg_handle(const size_t layout[BG_LAYOUT], uint8_t *memory, size_t memory_len, uint32_t session[BG_SESSION], uint8_t tag[BG_TAG],
                    const uint8_t *packet, size_t packet_len, uint8_t *reply, size_t reply_len, uint32_t answer[2]);
 
 /*
@@ -188,7 +207,7 @@ uint32_t bg_write_echo(uint8_t sequence, const uint8_t *text, size_t text_len, u
 /* A reset: 9 bytes. */
 uint32_t bg_write_reset(uint8_t sequence, uint8_t *out, size_t out_len, uint32_t *packet_len);
 
-/* An erase of the slot: 9 bytes. */
+/* An erase of the upload slot: 9 bytes. */
 uint32_t bg_write_erase(uint8_t sequence, uint8_t *out, size_t out_len, uint32_t *packet_len);
 
 /*
@@ -212,7 +231,7 @@ uint32_t bg_most_data(size_t out_len, uint64_t off, uint64_t length, size_t tag_
  * rc is 0 where the reply has none, off 0 where it has none, and the text's start, counted from the packet's first byte, and length are 0
  * where it has none. A text that is there lies inside the packet: its start plus its length is at most packet_len. Refuses 10, and reply stays: op
  * neither 1 nor 3, a wrong length, or a map that is not well formed. Group, sequence and command are the caller's to compare with the request's.
- * What bg_handle replied is read as it was meant.
+ * What bg_handle replied is read as it was meant, but for a list of images: its map is not well formed here, since an array is no value that is skipped.
  */
 uint32_t bg_read_reply(const uint8_t *packet, size_t packet_len, uint32_t reply[BG_REPLY]);
 

@@ -32,6 +32,9 @@ struct options {
     uint64_t memory_size;
     uint64_t slot_start;
     uint64_t slot_size;
+    uint64_t slot0_start;
+    uint64_t slot0_size;
+    bool slot0_sized;
     uint64_t packet_buffer;
     uint64_t idle_ms;
     uint64_t baud;
@@ -42,6 +45,7 @@ struct options {
     uint64_t outage_every;
     uint64_t outage_ms;
     const char *memory_file;
+    const char *running_file;
     const char *port_file;
     bool once;
     bool quiet;
@@ -53,6 +57,7 @@ struct controller {
     int master;
     int slave;
     int file;
+    size_t layout[BG_LAYOUT];
     uint8_t *memory;
     uint8_t *saved;
     uint8_t *packet;
@@ -173,11 +178,28 @@ static void save_memory(struct controller *c)
     memcpy(c->saved + from, c->memory + from, to - from);
 }
 
+/* Reads so many bytes from a file's start; false where they do not come. */
+static bool read_file(int file, uint8_t *bytes, size_t len)
+{
+    size_t have = 0;
+
+    while (have < len) {
+        ssize_t done = pread(file, bytes + have, len - have, (off_t)have);
+        if (done < 0 && errno == EINTR) {
+            continue;
+        }
+        if (done <= 0) {
+            return false;
+        }
+        have += (size_t)done;
+    }
+    return true;
+}
+
 /* Loads the memory from its file, or makes both all 255; a file of another size is not touched. */
 static void load_memory(struct controller *c)
 {
     size_t size = c->options.memory_size;
-    size_t have = 0;
     struct stat state;
 
     memset(c->memory, 255, size);
@@ -201,17 +223,44 @@ static void load_memory(struct controller *c)
         fail(END_FILE, "the memory file %s has %lld bytes, not %zu", c->options.memory_file,
              (long long)state.st_size, size);
     }
-    while (have < size) {
-        ssize_t done = pread(c->file, c->memory + have, size - have, (off_t)have);
-        if (done < 0 && errno == EINTR) {
-            continue;
-        }
-        if (done <= 0) {
-            fail(END_FILE, "cannot read the memory file %s", c->options.memory_file);
-        }
-        have += (size_t)done;
+    if (!read_file(c->file, c->memory, size)) {
+        fail(END_FILE, "cannot read the memory file %s", c->options.memory_file);
     }
     memcpy(c->saved, c->memory, size);
+}
+
+/* Puts the running image, if one was given, into slot 0, and 255 behind it. */
+static void load_running(struct controller *c)
+{
+    const char *path = c->options.running_file;
+    uint8_t *slot0 = c->memory + c->layout[BG_LAYOUT_SLOT0_START];
+    size_t size = c->layout[BG_LAYOUT_SLOT0_SIZE];
+    struct stat state;
+    int file;
+
+    if (path == NULL) {
+        return;
+    }
+    file = open(path, O_RDONLY | O_NONBLOCK | O_CLOEXEC);
+    if (file < 0 || fstat(file, &state) != 0) {
+        fail(END_FILE, "cannot open the running image %s: %s", path, strerror(errno));
+    }
+    if (!S_ISREG(state.st_mode)) {
+        fail(END_FILE, "the running image %s is not a plain file", path);
+    }
+    if (state.st_size == 0) {
+        fail(END_FILE, "the running image %s is empty", path);
+    }
+    if ((uint64_t)state.st_size > size) {
+        fail(END_FILE, "the running image %s has %lld bytes, more than slot 0's %zu", path, (long long)state.st_size,
+             size);
+    }
+    memset(slot0, 255, size);
+    if (!read_file(file, slot0, (size_t)state.st_size)) {
+        fail(END_FILE, "cannot read the running image %s", path);
+    }
+    close(file);
+    save_memory(c);
 }
 
 /* Waits as long as bytes take on a line of the speed that was asked for. */
@@ -303,8 +352,8 @@ static void take_packet(struct controller *c, size_t len)
 {
     const struct options *o = &c->options;
     uint32_t answer[2] = {0, 0};
-    uint32_t refusal = bg_handle(c->memory, o->memory_size, o->slot_start, o->slot_size, c->session, c->tag,
-                                 c->packet, len, c->reply, c->reply_room, answer);
+    uint32_t refusal = bg_handle(c->layout, c->memory, o->memory_size, c->session, c->tag, c->packet, len, c->reply,
+                                 c->reply_room, answer);
 
     if (refusal != 0) {
         log_refusal(c, "packet", refusal, len);
@@ -423,7 +472,8 @@ static void help(void)
 {
     printf("Usage: controller [OPTION...]\n"
            "A rack controller on a pseudo-terminal, whose path it prints on one line. It\n"
-           "takes image uploads into a slot of its memory.\n"
+           "takes image uploads into a slot of its memory, and lists the images there and\n"
+           "in slot 0, that of the running image.\n"
            "\n"
            "Options:\n"
            "  --port-file F       write the path to F instead of standard output; F is\n"
@@ -431,6 +481,10 @@ static void help(void)
            "  --memory-size N     bytes of memory (default 262144)\n"
            "  --slot-start N      where the slot starts in it (default 65536)\n"
            "  --slot-size N       bytes of the slot, at most 1048576 (default 131072)\n"
+           "  --slot0-start N     where slot 0 starts in the memory (default 0)\n"
+           "  --slot0-size N      bytes of slot 0 (default: up to the slot, or up to the\n"
+           "                      memory's end where slot 0 starts behind the slot)\n"
+           "  --running FILE      put FILE into slot 0 at the start, and 255 behind it\n"
            "  --memory FILE       load the memory from FILE if it exists, and write it back\n"
            "                      after each change; else it is RAM, at first all 255\n"
            "  --packet-buffer N   longest packet taken, 8 to 65533 bytes (default 1024)\n"
@@ -455,7 +509,7 @@ static void help(void)
            "  2  bad usage\n"
            "  3  file trouble\n"
            "  4  port trouble\n"
-           "  7  the slot is impossible\n");
+           "  7  the slots are impossible\n");
 }
 
 /* Reads the two numbers of an outage, or ends for bad usage. */
@@ -480,6 +534,9 @@ static void read_options(struct options *o, int argc, char **argv)
         {"memory-size", required_argument, NULL, 'm'},
         {"slot-start", required_argument, NULL, 's'},
         {"slot-size", required_argument, NULL, 'S'},
+        {"slot0-start", required_argument, NULL, 'z'},
+        {"slot0-size", required_argument, NULL, 'Z'},
+        {"running", required_argument, NULL, 'R'},
         {"memory", required_argument, NULL, 'f'},
         {"packet-buffer", required_argument, NULL, 'p'},
         {"baud", required_argument, NULL, 'b'},
@@ -517,6 +574,16 @@ static void read_options(struct options *o, int argc, char **argv)
             break;
         case 'S':
             o->slot_size = number_of(name, optarg, 0, 1u << 30);
+            break;
+        case 'z':
+            o->slot0_start = number_of(name, optarg, 0, 1u << 30);
+            break;
+        case 'Z':
+            o->slot0_size = number_of(name, optarg, 0, 1u << 30);
+            o->slot0_sized = true;
+            break;
+        case 'R':
+            o->running_file = optarg;
             break;
         case 'f':
             o->memory_file = optarg;
@@ -568,6 +635,19 @@ static void read_options(struct options *o, int argc, char **argv)
     }
 }
 
+/* Gives the controller its layout; a slot 0 without a size ends where the slot starts, or with the memory. */
+static void make_layout(struct controller *c)
+{
+    const struct options *o = &c->options;
+    uint64_t end = o->slot0_start <= o->slot_start ? o->slot_start : o->memory_size;
+    uint64_t size = end > o->slot0_start ? end - o->slot0_start : 0;
+
+    c->layout[BG_LAYOUT_SLOT0_START] = o->slot0_start;
+    c->layout[BG_LAYOUT_SLOT0_SIZE] = o->slot0_sized ? o->slot0_size : size;
+    c->layout[BG_LAYOUT_SLOT_START] = o->slot_start;
+    c->layout[BG_LAYOUT_SLOT_SIZE] = o->slot_size;
+}
+
 /* Gives the controller its memory and buffers. */
 static void make_buffers(struct controller *c)
 {
@@ -590,7 +670,8 @@ int main(int argc, char **argv)
     keep_standard();
     read_options(&c->options, argc, argv);
     c->random = c->options.seed;
-    refusal = bg_configure(c->options.slot_start, c->options.slot_size, c->options.memory_size, c->session, c->tag);
+    make_layout(c);
+    refusal = bg_configure(c->layout, c->options.memory_size, c->session, c->tag);
     if (refusal != 0) {
         fail(END_REFUSED, "refused %u (%s)", refusal, refusal_words(refusal));
     }
@@ -600,6 +681,7 @@ int main(int argc, char **argv)
     make_buffers(c);
     catch_stops();
     load_memory(c);
+    load_running(c);
     open_port(c);
     serve(c);
     save_memory(c);

@@ -90,6 +90,11 @@ build_relay() {
   build_test relay tests/upload/relay.c programs/line.c
 }
 
+# Builds the program that asks for the images.
+build_ask() {
+  build_test ask tests/upload/ask.c programs/incoming.c programs/line.c "${BG_ARCHIVE:-target/staticlib/libport.a}"
+}
+
 # Waits two seconds at most until a command holds.
 await() {
   local i
@@ -114,7 +119,8 @@ start() {
   port=$(cat "$work/port" 2>/dev/null)
 }
 
-# Starts a controller on the memory that is there: 65536 bytes, the slot of 32768 from 16384, and the words given.
+# Starts a controller on the memory that is there: 65536 bytes, slot 0 of 16384 from 0 on, the slot of 32768 from 16384, and
+# the words given.
 controller_again() {
   start "$programs/controller" --port-file "$work/port" --memory "$work/memory" --memory-size 65536 --slot-start 16384 \
     --slot-size 32768 --idle 15000 "$@"
@@ -198,4 +204,29 @@ number() {
 make_image() {
   [[ -f $work/bytes ]] || seq 1 500000 | gzip -n >"$work/bytes"
   tail -c "+$((${3:-0} + 1))" "$work/bytes" | head -c "$2" >"$work/$1"
+}
+
+# Writes bytes that are given in hexadecimal.
+bytes_of() {
+  # shellcheck disable=SC2001 # each pair stands in what it becomes
+  printf '%b' "$(sed 's/../\\x&/g' <<<"$1")"
+}
+
+# Makes an MCUboot image in $work: its version and its hash in hexadecimal, and how many bytes its body has.
+make_mcuboot() {
+  local name=$1 version=$2 hash=$3 size
+  make_image body "$4"
+  size=$(printf '%08x' "$4")
+  {
+    bytes_of "3db8f3960000000020000000${size:6:2}${size:4:2}${size:2:2}${size:0:2}00000000${version}0000000000000000"
+    cat "$work/body"
+    bytes_of "0769280010002000$hash"
+  } >"$work/$name"
+}
+
+# Asks for the images with a sequence number; adds to $problem where the reply is not these bytes.
+ask() {
+  local said
+  said=$(timeout -k 1 10 "$work/ask" "$port" "$1" 2>&1)
+  [[ -n $problem || $said == "$2" ]] || problem="asked for the images: $said"
 }

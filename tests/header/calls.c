@@ -131,6 +131,11 @@ static void check_controller(void)
     const uint8_t missing[13] = {1, 0, 0, 5, 0, 0, 0, 0, 0xA1, 0x62, 0x72, 0x63, 3};
     const uint8_t data[3] = {1, 2, 3};
     const uint8_t slot[8] = {255, 255, 1, 2, 3, 255, 255, 255};
+    const size_t layout[BG_LAYOUT] = {0, 2, 2, 6};
+    const size_t outside[BG_LAYOUT] = {0, 2, 2, 7};
+    const size_t outside0[BG_LAYOUT] = {8, 1, 2, 6};
+    const size_t shared[BG_LAYOUT] = {0, 3, 2, 6};
+    const size_t inside[BG_LAYOUT] = {4, 0, 2, 6};
     uint8_t memory[8];
     uint8_t packet[128];
     uint8_t reply[64];
@@ -145,18 +150,25 @@ static void check_controller(void)
     memset(reply, 0xEE, sizeof reply);
     memset(image_tag, 0x5A, sizeof image_tag);
     memset(tag, 9, sizeof tag);
-    check(bg_configure(2, 7, 8, session, tag) == 1, "a slot that ends outside the memory is refused 1");
-    check(session[0] == 9 && tag[0] == 9, "a refused slot leaves all");
-    check(bg_configure(2, 6, 8, session, tag) == 0, "a slot inside the memory is taken");
-    check(session[0] == 0 && session[3] == 0 && tag[0] == 0 && tag[31] == 0, "it has a closed session");
-    check(bg_handle(memory, 8, 2, 7, session, tag, zeros, 8, reply, 64, answer) == 1,
+    check(bg_configure(outside, 8, session, tag) == 1, "a slot that ends outside the memory is refused 1");
+    check(bg_configure(outside0, 8, session, tag) == 1, "a slot 0 that ends outside the memory is refused 1");
+    check(bg_configure(shared, 8, session, tag) == 1, "a byte in both slots is refused 1");
+    check(session[0] == 9 && tag[0] == 9, "a refused layout leaves all");
+    check(bg_configure(inside, 8, session, tag) == 0, "a slot 0 of no bytes inside the slot is taken");
+    session[0] = 9;
+    tag[31] = 9;
+    check(bg_configure(layout, 8, session, tag) == 0, "slots side by side in the memory are taken");
+    check(session[0] == 0 && session[3] == 0 && tag[0] == 0 && tag[31] == 0, "they have a closed session");
+    check(bg_handle(outside, memory, 8, session, tag, zeros, 8, reply, 64, answer) == 1,
           "an impossible slot is refused 1");
-    check(bg_handle(memory, 8, 2, 6, session, tag, zeros, 8, reply, 31, answer) == 11,
+    check(bg_handle(shared, memory, 8, session, tag, zeros, 8, reply, 64, answer) == 1,
+          "impossible slots are refused 1");
+    check(bg_handle(layout, memory, 8, session, tag, zeros, 8, reply, 31, answer) == 11,
           "a reply in 31 bytes is refused 11");
-    check(bg_handle(memory, 8, 2, 6, session, tag, zeros, 7, reply, 64, answer) == 10,
+    check(bg_handle(layout, memory, 8, session, tag, zeros, 7, reply, 64, answer) == 10,
           "a packet of 7 bytes is refused 10");
     check(answer[0] == 7 && answer[1] == 7 && reply[0] == 0xEE, "a refused packet leaves all");
-    check(bg_handle(memory, 8, 2, 6, session, tag, zeros, 8, reply, 64, answer) == 0,
+    check(bg_handle(layout, memory, 8, session, tag, zeros, 8, reply, 64, answer) == 0,
           "eight zero bytes are handled");
     check(answer[0] == 13 && answer[1] == 0 && same(reply, missing, 13) && reply[13] == 0xEE,
           "their reply is rc 3");
@@ -165,7 +177,7 @@ static void check_controller(void)
 
     check(bg_write_upload(200, data, 3, 0, 3, image_tag, 32, packet, sizeof packet, &len) == 0,
           "an upload is written");
-    check(bg_handle(memory, 8, 2, 6, session, tag, packet, len, reply, 64, answer) == 0, "the upload is handled");
+    check(bg_handle(layout, memory, 8, session, tag, packet, len, reply, 64, answer) == 0, "the upload is handled");
     check(bg_read_reply(reply, answer[0], numbers) == 0 && numbers[4] == 200, "its reply has its sequence number");
     check(numbers[0] == 3 && numbers[3] == 1 && numbers[5] == 1 && numbers[6] == 0,
           "its reply is of the upload, rc 0");
@@ -173,6 +185,55 @@ static void check_controller(void)
     check(same(memory, slot, 8), "the slot holds the image, and the rest stays");
     check(session[0] != 0 && session[1] == 3 && session[2] == 3 && session[3] != 0 && same(tag, image_tag, 32),
           "the session is open, whole and tagged");
+}
+
+/* Lists the images of two slots: none, then one in each; and what is answered with an rc. */
+static void check_list(void)
+{
+    const size_t layout[BG_LAYOUT] = {80, 72, 4, 72};
+    const uint8_t header[24] = {0x3D, 0xB8, 0xF3, 0x96, 0, 0, 0, 0, 32,  0, 0,    0,
+                                0,    0,    0,    0,    0, 0, 0, 0, 255, 2, 0x39, 0x30};
+    const uint8_t area[8] = {0x07, 0x69, 40, 0, 0x10, 0, 32, 0};
+    const uint8_t ask[8] = {0, 0, 0, 0, 0, 1, 77, 0};
+    const uint8_t ask_cut[9] = {0, 0, 0, 1, 0, 1, 77, 0, 0xA1};
+    const uint8_t none[17] = {1, 0, 0, 9, 0, 1, 77, 0, 0xA1, 0x66, 'i', 'm', 'a', 'g', 'e', 's', 0x80};
+    const uint8_t first[35] = {0x82, 0xA3, 0x64, 's', 'l', 'o', 't', 0,   0x67, 'v', 'e', 'r',
+                               's',  'i',  'o',  'n', 0x6B, '2', '5', '5', '.', '2', '.', '1',
+                               '2',  '3',  '4',  '5', 0x64, 'h', 'a', 's', 'h', 0x58, 32};
+    uint8_t memory[160];
+    uint8_t before[160];
+    uint8_t reply[160];
+    uint8_t tag[BG_TAG];
+    uint32_t session[BG_SESSION];
+    uint32_t answer[2] = {7, 7};
+    uint32_t numbers[BG_REPLY];
+
+    memset(memory, 255, sizeof memory);
+    memset(reply, 0xEE, sizeof reply);
+    check(bg_configure(layout, 160, session, tag) == 0, "slot 0 may stand behind the slot");
+    check(bg_handle(layout, memory, 160, session, tag, ask, 8, reply, 32, answer) == 0 && answer[0] == 17
+              && answer[1] == 0 && same(reply, none, 17) && reply[17] == 0xEE,
+          "two erased slots give an empty list");
+
+    memset(memory + 4, 0, 32);
+    memcpy(memory + 4, header, sizeof header);
+    memcpy(memory + 36, area, sizeof area);
+    memset(memory + 44, 0x5A, 32);
+    memcpy(memory + 80, memory + 4, 72);
+    memset(memory + 120, 0xA5, 32);
+    memcpy(before, memory, sizeof memory);
+    check(bg_handle(layout, memory, 160, session, tag, ask, 8, reply, 148, answer) == 0 && answer[0] == 13
+              && reply[12] == 7,
+          "a list longer than the reply buffer is rc 7");
+    check(bg_handle(layout, memory, 160, session, tag, ask, 8, reply, 149, answer) == 0 && answer[0] == 149,
+          "a list of two images");
+    check(same(reply + 16, first, sizeof first) && same(reply + 51, memory + 120, 32), "slot 0's image comes first");
+    check(reply[83] == 0xA3 && reply[89] == 1 && same(reply + 117, memory + 44, 32), "then the upload slot's");
+    check(same(memory, before, sizeof memory), "a list writes nothing to the memory");
+    check(bg_read_reply(reply, 149, numbers) == 10, "a list is no reply that is read: 10");
+    check(bg_handle(layout, memory, 160, session, tag, ask_cut, 9, reply, 32, answer) == 0 && answer[0] == 13
+              && reply[12] == 3,
+          "a malformed map is rc 3, also where the list would not fit");
 }
 
 /* Writes each request, and what a writer refuses. */
@@ -238,6 +299,7 @@ int main(void)
     check_sender();
     check_reader();
     check_controller();
+    check_list();
     check_writers();
     check_replies();
     printf("%u checks, %u wrong\n", checks, bad);

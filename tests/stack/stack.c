@@ -13,6 +13,12 @@ static unsigned char stack[STACK];
 static ucontext_t here, there;
 static void (*job)(void);
 
+static const size_t layout[BG_LAYOUT] = {4096, 4096, 0, 4096};
+
+/* A state read, and the head of an image and of its TLV area with a SHA-256 entry, whose bytes follow. */
+static const uint8_t state_read[8] = {0, 0, 0, 0, 0, 1};
+static const uint8_t image[40] = {0x3D, 0xB8, 0xF3, 0x96, [8] = 32, [20] = 255, 255, 255, 255, [32] = 0x07, 0x69, 40, 0, 0x10, 0, 32};
+
 static uint8_t memory[8192], packet[1024], reply[1024], line[128], body[900], out[1024], tag[32];
 static uint8_t held[BG_HELD], lump[BG_LUMP];
 static uint32_t collector[BG_COLLECTOR], reader[4], session[4], numbers[12], size;
@@ -41,11 +47,15 @@ static void send_frame(void) {
 }
 
 static void configure(void) {
-    bg_configure(0, 4096, sizeof memory, session, tag);
+    bg_configure(layout, sizeof memory, session, tag);
 }
 
 static void handle(void) {
-    bg_handle(memory, sizeof memory, 0, 4096, session, tag, packet, packet_len, reply, sizeof reply, numbers);
+    bg_handle(layout, memory, sizeof memory, session, tag, packet, packet_len, reply, sizeof reply, numbers);
+}
+
+static void handle_list(void) {
+    bg_handle(layout, memory, sizeof memory, session, tag, state_read, sizeof state_read, reply, sizeof reply, numbers);
 }
 
 static void write_echo(void) {
@@ -106,7 +116,7 @@ int main(void) {
     int fine = 1;
     memset(body, 7, sizeof body);
     memset(tag, 9, sizeof tag);
-    bg_configure(0, 4096, sizeof memory, session, tag);
+    bg_configure(layout, sizeof memory, session, tag);
     memset(tag, 9, sizeof tag);
     if (bg_send_frame(body, sizeof body, 0, line, sizeof line, numbers) != 0) {
         return 2;
@@ -147,6 +157,12 @@ int main(void) {
         return 2;
     }
     fine &= within("bg_read_reply", read_reply, base);
+    memcpy(memory, image, sizeof image);
+    memcpy(memory + 4096, image, sizeof image);
+    fine &= within("bg_handle, list", handle_list, base);
+    if (numbers[0] != 153) {
+        return 2;
+    }
     fine &= within("bg_configure", configure, base);
     fine &= within("bg_write_echo", write_echo, base);
     fine &= within("bg_write_upload", write_upload, base);

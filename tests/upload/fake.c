@@ -18,6 +18,9 @@ const char program[] = "fake";
 /* The memory, its slot, the packet buffer, how long the fake lives, and the packet at which some modes strike. */
 enum { MEMORY = 262144, START = 65536, SLOT = 131072, PACKET = 1024, LIFE_MS = 20000, STRIKE = 20 };
 
+/* Slot 0 is all that stands before the slot. */
+static const size_t layout[BG_LAYOUT] = {0, START, START, SLOT};
+
 /* The fake's memory, buffers and records. */
 struct fake {
     int master;
@@ -81,8 +84,7 @@ static uint32_t handle(struct fake *f, const uint8_t *packet, size_t len)
 {
     uint32_t answer[2] = {0, 0};
 
-    if (bg_handle(f->memory, MEMORY, START, SLOT, f->session, f->tag, packet, len, f->reply, PACKET, answer) !=
-        0) {
+    if (bg_handle(layout, f->memory, MEMORY, f->session, f->tag, packet, len, f->reply, PACKET, answer) != 0) {
         fail("a packet was refused");
     }
     save(f);
@@ -92,7 +94,7 @@ static uint32_t handle(struct fake *f, const uint8_t *packet, size_t len)
 /* Begins with a closed session, as a controller that was started anew; the memory stays. */
 static void configure(struct fake *f)
 {
-    if (bg_configure(START, SLOT, MEMORY, f->session, f->tag) != 0) {
+    if (bg_configure(layout, MEMORY, f->session, f->tag) != 0) {
         fail("the slot was refused");
     }
 }

@@ -24,7 +24,7 @@ const NO_BYTES: u64 = 14_695_981_039_346_656_037;
 struct World {
     image: Vec<u8>,
     memory: Vec<u8>,
-    slot_size: usize,
+    layout: [usize; 4],
     body_size: usize,
     leave_last: usize,
     lump_size: usize,
@@ -172,12 +172,11 @@ fn run_handle(w: &mut World) {
     let mut session = w.begun;
     let mut tag = w.begun_tag;
     let mut answer = [0; 2];
-    let size = w.slot_size;
     for i in w.first_request..w.request_count {
         let at = i * w.request_stride;
         let request = &w.requests[at..at + w.request_lens[i] as usize];
         let reply = &mut w.replies[i * PACKET..(i + 1) * PACKET];
-        if port::handle(&mut w.memory, 0, size, &mut session, &mut tag, request, reply, &mut answer) != 0 {
+        if port::handle(&w.layout, &mut w.memory, &mut session, &mut tag, request, reply, &mut answer) != 0 {
             fail("a request was refused");
         }
         w.reply_lens[i] = answer[0];
@@ -225,8 +224,8 @@ fn upload(w: &mut World, framed: bool) {
     let mut length = 0;
     let mut sequence = 0;
     let size = w.image.len();
-    if port::configure(0, size, size, &mut session, &mut tag) != 0 {
-        fail("the slot was refused");
+    if port::configure(&w.layout, size, &mut session, &mut tag) != 0 {
+        fail("the layout was refused");
     }
     w.request_count = 0;
     let mut off = 0;
@@ -242,7 +241,7 @@ fn upload(w: &mut World, framed: bool) {
             let come = pass(got, &mut w.come);
             got = &w.come[..come];
         }
-        if port::handle(&mut w.memory, 0, size, &mut session, &mut tag, got, &mut reply, &mut answer) != 0 {
+        if port::handle(&w.layout, &mut w.memory, &mut session, &mut tag, got, &mut reply, &mut answer) != 0 {
             fail("a request was refused");
         }
         let mut read = &reply[..answer[0] as usize];
@@ -337,8 +336,8 @@ fn make_chunks(w: &mut World) {
     let mut answer = [0; 2];
     let request = &w.requests[..w.request_lens[0] as usize];
     let reply = &mut w.replies[..PACKET];
-    if port::handle(&mut w.memory, 0, size, &mut w.begun, &mut w.begun_tag, request, reply, &mut answer) != 0
-    {
+    let (session, tag) = (&mut w.begun, &mut w.begun_tag);
+    if port::handle(&w.layout, &mut w.memory, session, tag, request, reply, &mut answer) != 0 {
         fail("a request was refused");
     }
     w.reply_lens[0] = answer[0];
@@ -394,15 +393,40 @@ fn make_erases(w: &mut World) {
     w.request_count = ERASES;
 }
 
+/// Writes an image at a place: a header of 32 bytes, a body, and a TLV area of one entry, the hash.
+fn put_image(to: &mut [u8], body: &[u8], hash: &[u8]) {
+    let mut header = [0; 32];
+    header[..4].copy_from_slice(&[0x3D, 0xB8, 0xF3, 0x96]);
+    header[8] = 32;
+    header[12..16].copy_from_slice(&(body.len() as u32).to_le_bytes());
+    header[20..24].copy_from_slice(&[1, 20, 0x39, 0x30]);
+    let whole = [&header, body, &[0x07, 0x69, 40, 0, 0x10, 0, 32, 0], hash].concat();
+    to[..whole.len()].copy_from_slice(&whole);
+}
+
+/// Writes state reads, to a memory whose halves are the two slots, each with an image.
+fn make_list(w: &mut World) {
+    let half = w.image.len() / 2;
+    w.layout = [0, half, half, half];
+    for slot in w.memory.chunks_mut(half) {
+        put_image(slot, &w.image[..w.body_size], &w.image[..32]);
+    }
+    for i in 0..MAPS {
+        w.request_lens[i] = put_packet(&mut w.requests[i * PACKET..], 0, 1, i, 0, &[]);
+    }
+    w.request_count = MAPS;
+}
+
 /// Writes one request of a family, as long as a request may be; it is handled again and again, with a slot of one byte, so that none is
 /// filled.
 fn make_fill(w: &mut World) {
     let mut words = w.family.split('-');
-    let (group, command) = match words.next() {
-        Some("echo") => (0, 0),
-        Some("reset") => (0, 5),
-        Some("upload") => (1, 1),
-        Some("erase") => (1, 5),
+    let (op, group, command) = match words.next() {
+        Some("echo") => (2, 0, 0),
+        Some("reset") => (2, 0, 5),
+        Some("list") => (0, 1, 0),
+        Some("upload") => (2, 1, 1),
+        Some("erase") => (2, 1, 5),
         _ => fail("no such command"),
     };
     let hex = words.next().unwrap_or("").as_bytes();
@@ -414,11 +438,11 @@ fn make_fill(w: &mut World) {
     let count = (LONGEST - 11) / pair.len();
     let mut map = vec![0xB9, (count >> 8) as u8, count as u8];
     map.extend(pair.repeat(count));
-    let length = put_packet(&mut w.requests, 2, group, 0, command, &map);
+    let length = put_packet(&mut w.requests, op, group, 0, command, &map);
     w.request_count = w.image.len() / 65536;
     w.request_lens[..w.request_count].fill(length);
     w.request_stride = 0;
-    w.slot_size = 1;
+    w.layout[3] = 1;
 }
 
 /// Adds bytes to a digest (FNV-1a).
@@ -483,7 +507,12 @@ fn answered(w: &World) -> Produced {
 /// The replies to the erases, and the slot, whose bytes are counted.
 fn erased(w: &World) -> Produced {
     let answered = answered(w);
-    Produced { bytes: answered.calls * w.slot_size, ..answered }
+    Produced { bytes: answered.calls * w.layout[3], ..answered }
+}
+
+/// The lists, whose bytes are counted, and the memory.
+fn listed(w: &World) -> Produced {
+    Produced { bytes: total(&w.reply_lens[..w.reply_count]), ..answered(w) }
 }
 
 /// The bytes of all requests and replies.
@@ -542,6 +571,8 @@ fn path_of(name: &str) -> Path {
         "chunks" => (make_chunks, run_handle, answered, 0, 0, 0),
         "unknown" => (make_unknown, run_handle, answered, 0, 0, 0),
         "erase" => (make_erases, run_handle, erased, 0, 0, 0),
+        "list0" => (make_list, run_handle, listed, 0, 0, 0),
+        "list60000" => (make_list, run_handle, listed, 60_000, 0, 0),
         "frames" => (make_upload, run_frames, passed, 0, 0, 0),
         "upload" => (make_nothing, run_upload, uploaded, 0, 0, 0),
         _ if name.starts_with("fill-") => (make_fill, run_handle, answered, 0, 0, 0),
@@ -562,7 +593,7 @@ fn set_up(size: usize, body_size: usize, leave_last: usize, lump_size: usize, fa
     World {
         image: (0..size).map(|_| next()).collect(),
         memory: touched(size),
-        slot_size: size,
+        layout: [0, 0, 0, size],
         body_size,
         leave_last,
         lump_size,

@@ -8,7 +8,7 @@ use lib.Seq.{take-at}
 use Rattle.laws.specs.Bytes.{pasted}
 use Rattle.laws.proofs.Choice.{pick-yes}
 use Rattle.laws.proofs.Lists.{pasted-start}
-use Rattle.slot.specs.declared.Slot.{Slot}
+use Rattle.slot.specs.declared.Layout.{Layout}
 use Rattle.slot.specs.Session.{State}
 use Rattle.smp.specs.declared.Reading.{Reading}
 use Rattle.smp.specs.declared.Request.{Request}
@@ -19,25 +19,25 @@ use Rattle.controller.specs.Calls.{Answered}
 use Rattle.controller.proofs.Laws.{taking-request}
 
 -- what a call leaves that is taken as a request
-module _ (slot : Slot) (st : State) (p b : List ℕ) (r : Request) where
+module _ (layout : Layout) (st : State) (p b : List ℕ) (r : Request) where
   said-so : (t : Taking) → t ≡ request r
-      → handled slot st p b t .says ≡ saidBy (request r) (length (bytesBy slot st (handled slot st p b t .state) p (length b) (request r)))
+      → handled layout st p b t .says ≡ saidBy (request r) (length (bytesBy layout st (handled layout st p b t .state) p (length b) (request r)))
   unfolding handled
   said-so t e = rw e refl
 
   stands : (t : Taking) → t ≡ request r
-      → take (length (bytesBy slot st (handled slot st p b t .state) p (length b) (request r))) (handled slot st p b t .reply)
-      ≡ bytesBy slot st (handled slot st p b t .state) p (length b) (request r)
+      → take (length (bytesBy layout st (handled layout st p b t .state) p (length b) (request r))) (handled layout st p b t .reply)
+      ≡ bytesBy layout st (handled layout st p b t .state) p (length b) (request r)
   unfolding handled
-  stands t e = rw e (at-start (bytesBy slot st _ p (length b) (request r)))
+  stands t e = rw e (at-start (bytesBy layout st _ p (length b) (request r)))
     where
       at-start : (x : List ℕ) → take (length x) (pasted b 0 x) ≡ x
       at-start x = ap (λ (m : List ℕ). take (length x) m) (pasted-start b x) ∙ take-at x (drop (length x) b) (length x) refl
 
 pub always-answered : Answered
 unfolding readRequest
-always-answered slot st p b h l e =
+always-answered layout st p b h l e =
     let r = requestOf (commandOf (headerIn p)) p in
     let read : readRequest p ≡ Reading.Is r = rw (e, pick-yes) in
-    let taken : taking slot st p b ≡ request r = taking-request slot st p b r h l read in
-    record { asks = r; read = read; says = said-so slot st p b r (taking slot st p b) taken; bytes = stands slot st p b r (taking slot st p b) taken }
+    let taken : taking layout st p b ≡ request r = taking-request layout st p b r h l read in
+    record { asks = r; read = read; says = said-so layout st p b r (taking layout st p b) taken; bytes = stands layout st p b r (taking layout st p b) taken }

@@ -11,10 +11,12 @@ use lib.ListN.{length, take, drop}
 use borrow.Author.Tests.{le-ltb, lt-ltb}
 use Rattle.laws.proofs.Choice.{pick-yes, pick-no, pick-case}
 use Rattle.slot.specs.declared.Slot.{Slot}
+use Rattle.slot.specs.declared.Layout.{Layout}
 use Rattle.slot.specs.declared.Session.{Session}
 use Rattle.slot.specs.Session.{State, stateOf, possible, closed, closedIn}
-use Rattle.slot.specs.History.{Fit, History, begun, went, Held, SentWhole}
+use Rattle.slot.specs.History.{Fit, History, begun, went, HeldIn, SentWhole}
 use Rattle.slot.proofs.Fit.{keep-fit, erase-fit, end-fit, planned-fit}
+use Rattle.slot.proofs.Laws.{layout-bounds}
 use Rattle.slot.proofs.History.{demand, as-unbroken, same-memory}
 use Rattle.smp.specs.declared.Request.{Request}
 use Rattle.smp.specs.declared.Reading.{Reading}
@@ -43,6 +45,7 @@ unfolding actFor
 request-fit slot st p (Request.Answer why) e = keep-fit slot (st .session)
 request-fit slot st p (Request.Echo start len) e = keep-fit slot (st .session)
 request-fit slot st p Request.Reset e = end-fit slot (st .session)
+request-fit slot st p Request.Images e = keep-fit slot (st .session)
 request-fit slot st p (Request.Upload u) e = planned-fit slot st p u (upload-inside p u e .0)
 request-fit slot st p Request.Erase e = erase-fit slot (st .session)
 
@@ -53,66 +56,68 @@ read-fit slot st p Reading.NotARequest e = keep-fit slot (st .session)
 read-fit slot st p (Reading.Is r) e = request-fit slot st p r e
 
 -- and the act of any call
-pub call-fit : (slot : Slot) (st : State) (p b : List ℕ) → Fit slot (st .session) (actBy slot st p (taking slot st p b))
+pub call-fit : (layout : Layout) (st : State) (p b : List ℕ) → Fit (layout .slot1) (st .session) (actBy (layout .slot1) st p (taking layout st p b))
 unfolding taking actBy
-call-fit slot st p b =
+call-fit layout st p b =
+    let slot : Slot = layout .slot1 in
     let fits : Taking → Type 0 = λ t. Fit slot (st .session) (actBy slot st p t) in
-    pick-case fits (not (possible slot st)) _ _ (λ e. keep-fit slot (st .session))
+    pick-case fits (not (possible layout st)) _ _ (λ e. keep-fit slot (st .session))
     (λ e. pick-case fits (ltb (length b) 32) _ _ (λ f. keep-fit slot (st .session)) (λ f. read-fit slot st p (readRequest p) refl))
 
 -- calls are a history of fit acts
-pub calls-history : (slot : Slot) (first : State) (calls : List Call) → History slot first (actsOf slot first calls) (after slot first calls)
+pub calls-history : (layout : Layout) (first : State) (calls : List Call) → History (layout .slot1) first (actsOf layout first calls) (after layout first calls)
 unfolding after actsOf handled
-calls-history slot first [] = begun
-calls-history slot first (c ∷ calls) =
-    let st : State = after slot first calls in
-    went (calls-history slot first calls) (actBy slot st (c .packet) (taking slot st (c .packet) (c .buffer))) (call-fit slot st (c .packet) (c .buffer))
+calls-history layout first [] = begun
+calls-history layout first (c ∷ calls) =
+    let st : State = after layout first calls in
+    went (calls-history layout first calls) (actBy (layout .slot1) st (c .packet) (taking layout st (c .packet) (c .buffer))) (call-fit layout st (c .packet) (c .buffer))
 
 -- the demand, for any list of packets
 pub packet-demand : PacketDemand
-packet-demand slot first calls h closed = demand slot first _ _ h closed (calls-history slot first calls)
+packet-demand layout first calls h closed = demand layout first _ _ h closed (calls-history layout first calls)
 
 -- its last sentence: of chunks that were cut from one image, the memory is what one unbroken sending leaves
 pub packet-unbroken : PacketUnbroken
-packet-unbroken slot first calls image h closed open-now cut = as-unbroken slot first _ _ image h closed (calls-history slot first calls) open-now cut
+packet-unbroken layout first calls image h closed open-now cut =
+    as-unbroken (layout .slot1) first _ _ image (layout-bounds layout (length (first .memory)) h .upload) closed (calls-history layout first calls) open-now cut
 
 -- two lists of packets, of chunks of one image, leave the same memory wherever they stand open at the same place
 pub packet-same-memory : PacketSameMemory
-packet-same-memory slot image first first′ calls calls′ h closed closed′ alike open-now open-now′ level cut cut′ =
-    same-memory slot image first first′ _ _ _ _ h closed closed′ alike (calls-history slot first calls) (calls-history slot first′ calls′) open-now
+packet-same-memory layout image first first′ calls calls′ h closed closed′ alike open-now open-now′ level cut cut′ =
+    same-memory (layout .slot1) image first first′ _ _ _ _ (layout-bounds layout (length (first .memory)) h .upload) closed closed′ alike (calls-history layout first calls) (calls-history layout first′ calls′) open-now
     open-now′ level cut cut′
 
 -- a run is at its end: less than a length is left, or the packet is not whole; or one packet more follows
-pub run-end : (slot : Slot) (first : State) (run b : List ℕ) (n at : ℕ) (calls : List Call) → length run - at < 2
-    → callsFrom slot first run b n at calls ≡ calls
+pub run-end : (layout : Layout) (first : State) (run b : List ℕ) (n at : ℕ) (calls : List Call) → length run - at < 2
+    → callsFrom layout first run b n at calls ≡ calls
 unfolding callsFrom
-run-end slot first run b zero at calls h = refl
-run-end slot first run b (suc n) at calls h = simp (lt-ltb _ _ h, pick-yes)
+run-end layout first run b zero at calls h = refl
+run-end layout first run b (suc n) at calls h = simp (lt-ltb _ _ h, pick-yes)
 
-pub run-cut : (slot : Slot) (first : State) (run b : List ℕ) (n at : ℕ) (calls : List Call) → 2 ≤ length run - at
-    → length run - (at + 2) < sizeAt run at → callsFrom slot first run b n at calls ≡ calls
+pub run-cut : (layout : Layout) (first : State) (run b : List ℕ) (n at : ℕ) (calls : List Call) → 2 ≤ length run - at
+    → length run - (at + 2) < sizeAt run at → callsFrom layout first run b n at calls ≡ calls
 unfolding callsFrom
-run-cut slot first run b zero at calls h l = refl
-run-cut slot first run b (suc n) at calls h l = simp (le-ltb _ _ h, lt-ltb _ _ l, pick-yes, pick-no)
+run-cut layout first run b zero at calls h l = refl
+run-cut layout first run b (suc n) at calls h l = simp (le-ltb _ _ h, lt-ltb _ _ l, pick-yes, pick-no)
 
-pub run-on : (slot : Slot) (first : State) (run b : List ℕ) (n at : ℕ) (calls : List Call) → 2 ≤ length run - at → sizeAt run at ≤ length run -
-    (at + 2) → callsFrom slot first run b (suc n) at calls ≡ callsFrom slot first run b n (at + 2 + sizeAt run at) (callAt slot first run b at calls ∷ calls)
+pub run-on : (layout : Layout) (first : State) (run b : List ℕ) (n at : ℕ) (calls : List Call) → 2 ≤ length run - at → sizeAt run at ≤ length run -
+    (at + 2) → callsFrom layout first run b (suc n) at calls ≡ callsFrom layout first run b n (at + 2 + sizeAt run at) (callAt layout first run b at calls ∷ calls)
 unfolding callsFrom
-run-on slot first run b n at calls h l = simp (le-ltb _ _ h, le-ltb _ _ l, pick-no)
+run-on layout first run b n at calls h l = simp (le-ltb _ _ h, le-ltb _ _ l, pick-no)
 
 -- how far a run has come at a place: the calls made so far, and what they left
-pub record Come (slot : Slot) (m run b m′ tag′ : List ℕ) (s : Session) (b′ : List ℕ) (at : ℕ) : Type 0 where
+pub record Come (layout : Layout) (m run b m′ tag′ : List ℕ) (s : Session) (b′ : List ℕ) (at : ℕ) : Type 0 where
   pub left : ℕ
   pub calls : List Call
   pub enough : length run ≤ at + left
-  pub same : callsOf slot (closedIn m) run b ≡ callsFrom slot (closedIn m) run b left at calls
-  pub state : stateOf m′ tag′ s ≡ after slot (closedIn m) calls
-  pub buffer : b′ ≡ bufferAfter slot (closedIn m) b calls
+  pub same : callsOf layout (closedIn m) run b ≡ callsFrom layout (closedIn m) run b left at calls
+  pub state : stateOf m′ tag′ s ≡ after layout (closedIn m) calls
+  pub buffer : b′ ≡ bufferAfter layout (closedIn m) b calls
 
 -- no packet was taken yet
-pub come-none : (slot : Slot) (m run b tag : List ℕ) (s : Session) → stateOf m tag s ≡ closedIn m → Come slot m run b m tag s b 0
+pub come-none : (layout : Layout) (m run b tag : List ℕ) (s : Session) → stateOf m tag s ≡ closedIn m → Come layout m run b m tag s b 0
 unfolding after bufferAfter
-come-none slot m run b tag s e =
+come-none layout m run b tag s e =
     record {
       left = length run;
       calls = [];
@@ -123,47 +128,47 @@ come-none slot m run b tag s e =
     }
 
 -- one packet more was taken
-pub come-more : (slot : Slot) (m run b m₁ tag₁ : List ℕ) (s₁ : Session) (b₁ : List ℕ) (at : ℕ) (m₂ tag₂ : List ℕ) (s₂ : Session) (b₂ : List ℕ)
-    → Come slot m run b m₁ tag₁ s₁ b₁ at
+pub come-more : (layout : Layout) (m run b m₁ tag₁ : List ℕ) (s₁ : Session) (b₁ : List ℕ) (at : ℕ) (m₂ tag₂ : List ℕ) (s₂ : Session) (b₂ : List ℕ)
+    → Come layout m run b m₁ tag₁ s₁ b₁ at
     → 2 ≤ length run - at
     → sizeAt run at ≤ length run - (at + 2)
-    → stateOf m₂ tag₂ s₂ ≡ handle slot (stateOf m₁ tag₁ s₁) (take (sizeAt run at) (drop (at + 2) run)) b₁ .state
-    → b₂ ≡ handle slot (stateOf m₁ tag₁ s₁) (take (sizeAt run at) (drop (at + 2) run)) b₁ .reply
-    → Come slot m run b m₂ tag₂ s₂ b₂ (at + 2 + sizeAt run at)
+    → stateOf m₂ tag₂ s₂ ≡ handle layout (stateOf m₁ tag₁ s₁) (take (sizeAt run at) (drop (at + 2) run)) b₁ .state
+    → b₂ ≡ handle layout (stateOf m₁ tag₁ s₁) (take (sizeAt run at) (drop (at + 2) run)) b₁ .reply
+    → Come layout m run b m₂ tag₂ s₂ b₂ (at + 2 + sizeAt run at)
 unfolding after bufferAfter
-come-more slot m run b m₁ tag₁ s₁ b₁ at m₂ tag₂ s₂ b₂ c two whole st rep =
+come-more layout m run b m₁ tag₁ s₁ b₁ at m₂ tag₂ s₂ b₂ c two whole st rep =
     let p : List ℕ = take (sizeAt run at) (drop (at + 2) run) in
     let first : State = closedIn m in
     let one : c .left ≡ suc (c .left - 1) = omega (arith, c .enough, two) in
-    let both : handle slot (stateOf m₁ tag₁ s₁) p b₁ ≡ handle slot (after slot first (c .calls)) p (bufferAfter slot first b (c .calls)) =
-    ap₂ (λ (x : State) (y : List ℕ). handle slot x p y) (c .state) (c .buffer) in
+    let both : handle layout (stateOf m₁ tag₁ s₁) p b₁ ≡ handle layout (after layout first (c .calls)) p (bufferAfter layout first b (c .calls)) =
+    ap₂ (λ (x : State) (y : List ℕ). handle layout x p y) (c .state) (c .buffer) in
     record {
       left = c .left - 1;
-      calls = callAt slot first run b at (c .calls) ∷ c .calls;
+      calls = callAt layout first run b at (c .calls) ∷ c .calls;
       enough = omega (arith, c .enough, two);
       same =
           c .same
-          ∙ ap (λ (n : ℕ). callsFrom slot first run b n at (c .calls)) one
-          ∙ run-on slot first run b (c .left - 1) at (c .calls) two whole;
+          ∙ ap (λ (n : ℕ). callsFrom layout first run b n at (c .calls)) one
+          ∙ run-on layout first run b (c .left - 1) at (c .calls) two whole;
       state = st ∙ ap (λ (o : Outcome). o .state) both;
       buffer = rep ∙ ap (λ (o : Outcome). o .reply) both;
     }
 
 -- no packet is left: what the run promises
-pub come-end : (slot : Slot) (m run b m′ tag′ : List ℕ) (s : Session) (b′ : List ℕ) (at : ℕ) (c : Come slot m run b m′ tag′ s b′ at)
-    → callsFrom slot (closedIn m) run b (c .left) at (c .calls) ≡ c .calls
-    → Ran slot m run b m′ tag′ s b′
-come-end slot m run b m′ tag′ s b′ at c e =
+pub come-end : (layout : Layout) (m run b m′ tag′ : List ℕ) (s : Session) (b′ : List ℕ) (at : ℕ) (c : Come layout m run b m′ tag′ s b′ at)
+    → callsFrom layout (closedIn m) run b (c .left) at (c .calls) ≡ c .calls
+    → Ran layout m run b m′ tag′ s b′
+come-end layout m run b m′ tag′ s b′ at c e =
     let first : State = closedIn m in
-    let all : c .calls ≡ callsOf slot first run b = sym (c .same ∙ e) in
-    let state : stateOf m′ tag′ s ≡ after slot first (callsOf slot first run b) = c .state ∙ ap (λ (l : List Call). after slot first l) all in
+    let all : c .calls ≡ callsOf layout first run b = sym (c .same ∙ e) in
+    let state : stateOf m′ tag′ s ≡ after layout first (callsOf layout first run b) = c .state ∙ ap (λ (l : List Call). after layout first l) all in
     record {
       state = state;
-      buffer = c .buffer ∙ ap (λ (l : List Call). bufferAfter slot first b l) all;
+      buffer = c .buffer ∙ ap (λ (l : List Call). bufferAfter layout first b l) all;
       held = λ h.
-          subst (λ (st : State). Held slot first (actsOf slot first (callsOf slot first run b)) st) (sym state)
-          (packet-demand slot first (callsOf slot first run b) h refl);
+          subst (λ (st : State). HeldIn layout first (actsOf layout first (callsOf layout first run b)) st) (sym state)
+          (packet-demand layout first (callsOf layout first run b) h refl);
       unbroken = λ image h running cut.
-          subst (λ (st : State). SentWhole slot first image st) (sym state)
-          (packet-unbroken slot first (callsOf slot first run b) image h refl (ap (λ (st : State). st .session .running) (sym state) ∙ running) cut);
+          subst (λ (st : State). SentWhole (layout .slot1) first image st) (sym state)
+          (packet-unbroken layout first (callsOf layout first run b) image h refl (ap (λ (st : State). st .session .running) (sym state) ∙ running) cut);
     }

@@ -1,6 +1,6 @@
--- The request call's definition at each way of its tests, and that every reply can be said.
+-- The request call's definition at each way of its tests, and that every response can be written.
 -- Assumes nothing.
-use mathlib.Core.Path.{_≡_, refl, sym, ap, ap₂, subst, _∙_}
+use mathlib.Core.Path.{_≡_, refl, sym, ap, subst, _∙_}
 use mathlib.Core.Bool.{true, false, not}
 use mathlib.Core.List.{List}
 use Prim.Native.Nat.{ℕ, _+_, _≤_, _<_}
@@ -14,6 +14,7 @@ use Rattle.laws.specs.Bytes.{pasted}
 use Rattle.laws.proofs.Choice.{pick-yes, pick-no, pick-case, both-true}
 use Rattle.laws.proofs.Lists.{pasted-none}
 use Rattle.slot.specs.declared.Slot.{Slot}
+use Rattle.slot.specs.declared.Layout.{Layout}
 use Rattle.slot.specs.declared.Upload.{Upload}
 use Rattle.slot.specs.declared.Plan.{Plan}
 use Rattle.slot.specs.Session.{regionOk, sessionOk, State, possible}
@@ -24,14 +25,14 @@ use Rattle.slot.proofs.Fit.{planned-fit}
 use Rattle.slot.proofs.Laws.{region-bounds, session-bounds}
 use Rattle.smp.specs.declared.Request.{Request}
 use Rattle.smp.specs.declared.Reading.{Reading}
-use Rattle.smp.specs.declared.Header.{Header}
-use Rattle.smp.specs.declared.Reply.{Reply}
 use Rattle.smp.specs.Packet.{headerIn}
 use Rattle.smp.specs.Request.{readRequest}
 use Rattle.smp.specs.Reply.{replyBytes, Sayable}
 use Rattle.smp.specs.Inner.{Written}
 use Rattle.smp.proofs.Sound.{upload-inside, echo-inside, request-sized}
-use Rattle.controller.specs.Doing.{actFor, replyTo, replyFor, asksReset}
+use Rattle.controller.specs.declared.Response.{Response}
+use Rattle.controller.specs.Inner.{Answerable}
+use Rattle.controller.specs.Doing.{actFor, replyTo, responseFor, responseMap, asksReset}
 use Rattle.controller.specs.Handle.{
   Said,
   replied,
@@ -50,59 +51,61 @@ use Rattle.controller.specs.Handle.{
 }
 
 -- a refusal leaves all as it was
-pub refused-all : (slot : Slot) (st : State) (p b : List ℕ) (n : ℕ) → handled slot st p b (refusal n) ≡ record { says = refused n; state = st; reply = b }
+pub refused-all : (layout : Layout) (st : State) (p b : List ℕ) (n : ℕ) → handled layout st p b (refusal n) ≡ record { says = refused n; state = st; reply = b }
 unfolding handled actBy bytesBy saidBy done
-refused-all slot st p b n = ap (λ (l : List ℕ). record { says = refused n; state = st; reply = l }) (pasted-none b 0)
+refused-all layout st p b n = ap (λ (l : List ℕ). record { says = refused n; state = st; reply = l }) (pasted-none b 0)
 
-module _ (slot : Slot) (st : State) (p b : List ℕ) where
-  -- an impossible slot or record: refusal 1
-  pub taking-impossible : possible slot st ≡ false → taking slot st p b ≡ refusal 1
+module _ (layout : Layout) (st : State) (p b : List ℕ) where
+  -- impossible regions or an impossible record: refusal 1
+  pub taking-impossible : possible layout st ≡ false → taking layout st p b ≡ refusal 1
   unfolding taking
   taking-impossible h = simp (h, pick-yes)
 
   -- a short reply buffer: refusal 11
-  pub taking-short : possible slot st ≡ true → length b < 32 → taking slot st p b ≡ refusal 11
+  pub taking-short : possible layout st ≡ true → length b < 32 → taking layout st p b ≡ refusal 11
   unfolding taking
   taking-short h l = simp (h, pick-no, lt-ltb _ _ l, pick-yes)
 
   -- a packet that is no request: refusal 10
-  pub taking-other : possible slot st ≡ true → 32 ≤ length b → readRequest p ≡ Reading.NotARequest → taking slot st p b ≡ refusal 10
+  pub taking-other : possible layout st ≡ true → 32 ≤ length b → readRequest p ≡ Reading.NotARequest → taking layout st p b ≡ refusal 10
   unfolding taking asked
   taking-other h l e = simp (h, pick-no, le-ltb _ _ l, e)
 
   -- a request: it is carried out
-  pub taking-request : (r : Request) → possible slot st ≡ true → 32 ≤ length b → readRequest p ≡ Reading.Is r → taking slot st p b ≡ request r
+  pub taking-request : (r : Request) → possible layout st ≡ true → 32 ≤ length b → readRequest p ≡ Reading.Is r → taking layout st p b ≡ request r
   unfolding taking asked
   taking-request r h l e = simp (h, pick-no, le-ltb _ _ l, e)
 
   -- a call that is refused leaves all as it was
-  pub handle-refused : (n : ℕ) → taking slot st p b ≡ refusal n → handle slot st p b ≡ record { says = refused n; state = st; reply = b }
-  handle-refused n e = ap (handled slot st p b) e ∙ refused-all slot st p b n
+  pub handle-refused : (n : ℕ) → taking layout st p b ≡ refusal n → handle layout st p b ≡ record { says = refused n; state = st; reply = b }
+  handle-refused n e = ap (handled layout st p b) e ∙ refused-all layout st p b n
 
--- a request carried out, from its parts: the state after its act and the reply that was written; with a reset asked, and without
-module _ (slot : Slot) (st : State) (p b : List ℕ) (r : Request) (h : Header) (meant : Reply) (n : ℕ) (b′ : List ℕ) (after : State)
-    (header : h ≡ headerIn p) (state : after ≡ done slot (actFor slot st p r) st) (reply : meant ≡ replyFor slot st after p r)
-    (written : Written h p meant b n b′) where
+-- a request carried out, from its parts: the state after its act and the response that was written; with a reset asked, and without
+module _ (layout : Layout) (st : State) (p b : List ℕ) (r : Request) (response : Response) (n : ℕ) (b′ : List ℕ) (after : State)
+    (state : after ≡ done (layout .slot1) (actFor (layout .slot1) st p r) st) (meant : response ≡ responseFor (layout .slot1) st after p r)
+    (written : Written (headerIn p) (responseMap layout (after .memory) p response) b n b′) where
   -- the bytes that were written are those of the definition
-  bytes-meant : replyBytes h p meant (length b) ≡ bytesBy slot st (done slot (actFor slot st p r) st) p (length b) (request r)
+  bytes-meant : replyBytes (headerIn p) (responseMap layout (after .memory) p response) (length b)
+      ≡ bytesBy layout st (done (layout .slot1) (actFor (layout .slot1) st p r) st) p (length b) (request r)
   unfolding bytesBy
   bytes-meant =
-      ap₂ (λ (k : Header) (m : Reply). replyBytes k p m (length b)) header
-      (reply ∙ ap (λ (x : State). replyFor slot st x p r) state)
+      ap (λ (x : Response). replyBytes (headerIn p) (responseMap layout (after .memory) p x) (length b)) meant
+      ∙ ap (λ (x : State). replyBytes (headerIn p) (responseMap layout (x .memory) p (responseFor (layout .slot1) st x p r)) (length b)) state
 
   -- all that the call leaves, by what it said
-  parts : (s : Said) → s ≡ saidBy (request r) (length (bytesBy slot st (done slot (actFor slot st p r) st) p (length b) (request r)))
-      → _≡_ {A = Outcome} (record { says = s; state = after; reply = b′ }) (handled slot st p b (request r))
+  parts : (s : Said)
+      → s ≡ saidBy (request r) (length (bytesBy layout st (done (layout .slot1) (actFor (layout .slot1) st p r) st) p (length b) (request r)))
+      → _≡_ {A = Outcome} (record { says = s; state = after; reply = b′ }) (handled layout st p b (request r))
   unfolding handled actBy
   parts s e = λ i. record { says = e i; state = state i; reply = (written .bytes ∙ ap (λ (x : List ℕ). pasted b 0 x) bytes-meant) i }
 
   -- a reset is asked
-  pub carried-reset : asksReset r ≡ true → _≡_ {A = Outcome} (record { says = resetAsked n; state = after; reply = b′ }) (handled slot st p b (request r))
+  pub carried-reset : asksReset r ≡ true → _≡_ {A = Outcome} (record { says = resetAsked n; state = after; reply = b′ }) (handled layout st p b (request r))
   unfolding saidBy
   carried-reset e = parts (resetAsked n) (ap resetAsked (written .count ∙ ap length bytes-meant) ∙ sym (simp (e, pick-yes)))
 
   -- no reset is asked
-  pub carried-plain : asksReset r ≡ false → _≡_ {A = Outcome} (record { says = replied n; state = after; reply = b′ }) (handled slot st p b (request r))
+  pub carried-plain : asksReset r ≡ false → _≡_ {A = Outcome} (record { says = replied n; state = after; reply = b′ }) (handled layout st p b (request r))
   unfolding saidBy
   carried-plain e = parts (replied n) (ap replied (written .count ∙ ap length bytes-meant) ∙ sym (simp (e, pick-no)))
 
@@ -174,14 +177,16 @@ module _ (slot : Slot) (st : State) (s : List ℕ) (u : Upload) (size : slot .si
           omega (arith, f .3)
       go (Plan.Start l) e = let f = fit (Plan.Start l) e in omega (arith, f .1, f .2)
 
--- a request that was read can be answered: its reply can be said
-pub reply-sayable : (slot : Slot) (st : State) (p : List ℕ) (r : Request) → possible slot st ≡ true → readRequest p ≡ Reading.Is r
-    → Sayable p (replyFor slot st (done slot (actFor slot st p r) st) p r)
-unfolding replyFor actFor
-reply-sayable slot st p (Request.Answer why) h e = tt
-reply-sayable slot st p (Request.Echo start len) h e = (echo-inside p start len e, request-sized p (Request.Echo start len) e .1)
-reply-sayable slot st p Request.Reset h e = tt
-reply-sayable slot st p (Request.Upload u) h e =
-    let oks = both-true (regionOk slot (length (st .memory))) (sessionOk slot (st .session)) h in
-    placed-small slot st p u (region-bounds slot (length (st .memory)) (oks .0) .within) (oks .1) (upload-inside p u e .0)
-reply-sayable slot st p Request.Erase h e = tt
+-- a request that was read can be answered: its response can be written
+pub response-answerable : (slot : Slot) (st : State) (p : List ℕ) (r : Request) → regionOk slot (length (st .memory)) ≡ true
+    → sessionOk slot (st .session) ≡ true
+    → readRequest p ≡ Reading.Is r
+    → Answerable p (responseFor slot st (done slot (actFor slot st p r) st) p r)
+unfolding responseFor actFor
+response-answerable slot st p (Request.Answer why) h k e = tt
+response-answerable slot st p (Request.Echo start len) h k e = (echo-inside p start len e, request-sized p (Request.Echo start len) e .1)
+response-answerable slot st p Request.Reset h k e = tt
+response-answerable slot st p Request.Images h k e = tt
+response-answerable slot st p (Request.Upload u) h k e =
+    placed-small slot st p u (region-bounds slot (length (st .memory)) h .within) k (upload-inside p u e .0)
+response-answerable slot st p Request.Erase h k e = tt

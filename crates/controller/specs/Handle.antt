@@ -10,6 +10,7 @@ use Rattle.laws.specs.Choice.{pick}
 use Rattle.laws.specs.Bytes.{pasted}
 use Rattle.refusal.specs.Number.{numberOf}
 use Rattle.slot.specs.declared.Slot.{Slot}
+use Rattle.slot.specs.declared.Layout.{Layout}
 use Rattle.slot.specs.Session.{State, stateOf, possible}
 use Rattle.slot.specs.Act.{Act, done}
 use Rattle.smp.specs.declared.Request.{Request}
@@ -20,7 +21,7 @@ use Rattle.smp.specs.Reply.{replyBytes}
 use Rattle.controller.specs.declared.Answer.{Answer}
 use Rattle.controller.specs.declared.Answer.the-variants.{Replied, ResetAsked, Refused}
 use Rattle.controller.specs.declared.Handled.{Handled}
-use Rattle.controller.specs.Doing.{actFor, replyFor, asksReset}
+use Rattle.controller.specs.Doing.{actFor, responseFor, responseMap, asksReset}
 
 -- what the call says, in the paper's terms: a reply of so many bytes, that with a reset asked, or the refusal of this number
 pub data Said : Type 0 where
@@ -55,9 +56,9 @@ asked Reading.NotARequest = refusal 10
 asked (Reading.Is r) = request r
 
 -- the refusals in their order: 1, 11, 10
-unfoldable pub taking : Slot → State → List ℕ → List ℕ → Taking
-taking slot st p b =
-    pick (not (possible slot st)) (refusal 1)
+unfoldable pub taking : Layout → State → List ℕ → List ℕ → Taking
+taking layout st p b =
+    pick (not (possible layout st)) (refusal 1)
     (pick (ltb (length b) 32) (refusal 11)
     (asked (readRequest p)))
 
@@ -67,9 +68,10 @@ actBy slot st p (refusal n) = Act.keep
 actBy slot st p (request r) = actFor slot st p r
 
 -- the reply's bytes, in a buffer of so many: none at a refusal
-unfoldable pub bytesBy : Slot → State → State → List ℕ → ℕ → Taking → List ℕ
-bytesBy slot st after p room (refusal n) = []
-bytesBy slot st after p room (request r) = replyBytes (headerIn p) p (replyFor slot st after p r) room
+unfoldable pub bytesBy : Layout → State → State → List ℕ → ℕ → Taking → List ℕ
+bytesBy layout st after p room (refusal n) = []
+bytesBy layout st after p room (request r) =
+    replyBytes (headerIn p) (responseMap layout (after .memory) p (responseFor (layout .slot1) st after p r)) room
 
 -- what is said, with a reply of so many bytes
 unfoldable pub saidBy : Taking → ℕ → Said
@@ -77,12 +79,12 @@ saidBy (refusal n) size = refused n
 saidBy (request r) size = pick (asksReset r) (resetAsked size) (replied size)
 
 -- the call, by how it is taken: its act is done, and the reply to the state after stands at the buffer's start
-unfoldable pub handled : Slot → State → List ℕ → List ℕ → Taking → Outcome
-handled slot st p b t =
-    let after : State = done slot (actBy slot st p t) st in
-    let x : List ℕ = bytesBy slot st after p (length b) t in
+unfoldable pub handled : Layout → State → List ℕ → List ℕ → Taking → Outcome
+handled layout st p b t =
+    let after : State = done (layout .slot1) (actBy (layout .slot1) st p t) st in
+    let x : List ℕ = bytesBy layout st after p (length b) t in
     record { says = saidBy t (length x); state = after; reply = pasted b 0 x }
 
 -- the request call
-abbrev pub handle : Slot → State → List ℕ → List ℕ → Outcome
-handle slot st p b = handled slot st p b (taking slot st p b)
+abbrev pub handle : Layout → State → List ℕ → List ℕ → Outcome
+handle layout st p b = handled layout st p b (taking layout st p b)

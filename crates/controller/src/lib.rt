@@ -1,5 +1,6 @@
 // The controller's request call: a packet goes in, and a reply comes out; the slot is written as the upload rules say.
 use refusal::Refusal;
+use slot::Layout;
 use slot::Plan;
 use slot::Session;
 use slot::Slot;
@@ -10,14 +11,16 @@ use smp::Request;
 ghost use mathlib.Core.Path.{_≡_};
 ghost use mathlib.Core.Bool.{true};
 ghost use mathlib.Core.List.{List};
-ghost use Prim.Native.Nat.{ℕ, _+_, _-_, _≤_};
+ghost use Prim.Native.Nat.{ℕ, _+_, _-_, _≤_, _<_};
 ghost use lib.ListN.{length};
 ghost use Rattle.laws.specs.Parts.{partOf, Within};
-ghost use Rattle.slot.specs.Session.{stateOf, possible};
+ghost use Rattle.slot.specs.Session.{regionOk, layoutOk, sessionOk, stateOf, possible};
+ghost use Rattle.smp.specs.Packet.{headerIn};
 ghost use Rattle.smp.specs.Request.{readRequest};
-ghost use Rattle.controller.specs.Doing.{replyTo, asksReset};
+ghost use Rattle.smp.specs.Inner.{Written};
+ghost use Rattle.controller.specs.Doing.{replyTo, responseMap, asksReset};
 ghost use Rattle.controller.specs.Handle.{Taking, outcome, handled, handle};
-ghost use Rattle.controller.specs.Inner.{Carried};
+ghost use Rattle.controller.specs.Inner.{Carried, Answerable};
 ghost use Rattle.controller.specs.Calls.{Ran};
 
 // What the request call says.
@@ -36,9 +39,17 @@ pub struct Handled {
     pub session: Session,
 }
 
-// A request carried out: what is replied, and the session record after it.
+// What a request is answered with.
+pub enum Response {
+    // A reply that its own words say.
+    Reply(Reply),
+    // The list of the images in both slots.
+    Images,
+}
+
+// A request carried out: what it is answered with, and the session record after it.
 pub struct Done {
-    pub reply: Reply,
+    pub response: Response,
     pub session: Session,
 }
 
@@ -63,7 +74,7 @@ fn do_upload(
     packet: &[u8],
     upload: Upload,
 ) -> Done
-    requires { ⌜ possible slot (stateOf (now memory) (now tag) session) ≡ true ⌝ }
+    requires { ⌜ (regionOk slot (length (now memory)) ≡ true) × (sessionOk slot session ≡ true) ⌝ }
     requires { ⌜ (upload .start + upload .size ≤ length (now packet)) × Within (now packet) (upload .sha) ⌝ }
     ensures { λ r. ⌜ Carried slot (stateOf (now (memory .entry)) (now (tag .entry)) session) (now (packet .entry)) (Request.Upload upload) r
         (now (memory .exit)) (now (tag .exit)) ⌝ }
@@ -72,7 +83,7 @@ fn do_upload(
     let after = slot::carry_out(slot, session, tag, memory, packet, upload, plan);
     let reply = reply_to(plan, after);
     Done {
-        reply,
+        response: Response::Reply(reply),
         session: after,
     }
 }
@@ -86,33 +97,37 @@ fn carry(
     packet: &[u8],
     request: Request,
 ) -> Done
-    requires { ⌜ possible slot (stateOf (now memory) (now tag) session) ≡ true ⌝ }
+    requires { ⌜ (regionOk slot (length (now memory)) ≡ true) × (sessionOk slot session ≡ true) ⌝ }
     requires { ⌜ readRequest (now packet) ≡ Reading.Is request ⌝ }
     ensures { λ r. ⌜ Carried slot (stateOf (now (memory .entry)) (now (tag .entry)) session) (now (packet .entry)) request r (now (memory .exit))
         (now (tag .exit)) ⌝ }
 {
     match request {
         Request::Answer(why) => Done {
-            reply: Reply::Refused(why),
+            response: Response::Reply(Reply::Refused(why)),
             session,
         },
         Request::Echo { start, len } => Done {
-            reply: Reply::Text { start, len },
+            response: Response::Reply(Reply::Text { start, len }),
             session,
         },
         Request::Reset => {
             let after = slot::closed_session();
             *tag = [0u8; 32];
             Done {
-                reply: Reply::Done,
+                response: Response::Reply(Reply::Done),
                 session: after,
             }
         }
+        Request::Images => Done {
+            response: Response::Images,
+            session,
+        },
         Request::Upload(upload) => do_upload(slot, session, tag, memory, packet, upload),
         Request::Erase => {
             let after = slot::erase(slot, tag, memory);
             Done {
-                reply: Reply::Done,
+                response: Response::Reply(Reply::Done),
                 session: after,
             }
         }
@@ -127,14 +142,37 @@ fn asks_reset(request: Request) -> bool
         Request::Answer(_) => false,
         Request::Echo { start: _, len: _ } => false,
         Request::Reset => true,
+        Request::Images => false,
         Request::Upload(_) => false,
         Request::Erase => false,
     }
 }
 
-// Carries a request out and writes its reply.
+// Writes the response to a request: its own reply, or the list of the images.
+fn write_response(
+    layout: Layout,
+    memory: &[u8],
+    packet: &[u8],
+    response: Response,
+    reply: &mut [u8],
+) -> usize
+    requires { ⌜ layoutOk layout (length (now memory)) ≡ true ⌝ }
+    requires { ⌜ 32 ≤ length (now reply) ⌝ }
+    requires { ⌜ headerIn (now packet) .op < 255 ⌝ }
+    requires { ⌜ Answerable (now packet) response ⌝ }
+    ensures { λ r. ⌜ Written (headerIn (now (packet .entry))) (responseMap layout (now (memory .entry)) (now (packet .entry)) response)
+        (now (reply .entry)) r (now (reply .exit)) ⌝ }
+{
+    let header = smp::header_in(packet);
+    match response {
+        Response::Reply(meant) => smp::write_reply(header, packet, meant, reply),
+        Response::Images => listing::write_list(header, memory, layout, reply),
+    }
+}
+
+// Carries a request out and writes its response.
 fn respond(
-    slot: Slot,
+    layout: Layout,
     session: Session,
     tag: &mut [u8; 32],
     memory: &mut [u8],
@@ -142,17 +180,17 @@ fn respond(
     request: Request,
     reply: &mut [u8],
 ) -> Handled
-    requires { ⌜ possible slot (stateOf (now memory) (now tag) session) ≡ true ⌝ }
+    requires { ⌜ possible layout (stateOf (now memory) (now tag) session) ≡ true ⌝ }
     requires { ⌜ 32 ≤ length (now reply) ⌝ }
     requires { ⌜ readRequest (now packet) ≡ Reading.Is request ⌝ }
     ensures { λ r. ⌜ outcome r (now (memory .exit)) (now (tag .exit)) (now (reply .exit))
-        ≡ handled slot (stateOf (now (memory .entry)) (now (tag .entry)) session) (now (packet .entry)) (now (reply .entry)) (Taking.request request) ⌝ }
+        ≡ handled layout (stateOf (now (memory .entry)) (now (tag .entry)) session) (now (packet .entry)) (now (reply .entry)) (Taking.request request) ⌝ }
 {
+    let slot = layout.slot1;
     let done = carry(slot, session, tag, memory, packet, request);
     let after = done.session;
-    let meant = done.reply;
-    let header = smp::header_in(packet);
-    let n = smp::write_reply(header, packet, meant, reply);
+    let response = done.response;
+    let n = write_response(layout, memory, packet, response, reply);
     if asks_reset(request) {
         return Handled {
             answer: Answer::ResetAsked(n),
@@ -168,7 +206,7 @@ fn respond(
 // Takes one request packet: the slot is written as the upload rules say, and a reply stands at the reply buffer's start; or a refusal, and
 // nothing changes. Gives the session record for the next call; its tag stands beside it.
 pub fn handle_packet(
-    slot: Slot,
+    layout: Layout,
     session: Session,
     tag: &mut [u8; 32],
     memory: &mut [u8],
@@ -176,9 +214,9 @@ pub fn handle_packet(
     reply: &mut [u8],
 ) -> Handled
     ensures { λ r. ⌜ outcome r (now (memory .exit)) (now (tag .exit)) (now (reply .exit))
-        ≡ handle slot (stateOf (now (memory .entry)) (now (tag .entry)) session) (now (packet .entry)) (now (reply .entry)) ⌝ }
+        ≡ handle layout (stateOf (now (memory .entry)) (now (tag .entry)) session) (now (packet .entry)) (now (reply .entry)) ⌝ }
 {
-    if !slot::possible(slot, session, memory.len()) {
+    if !slot::possible(layout, session, memory.len()) {
         return Handled {
             answer: Answer::Refused(Refusal::Impossible),
             session,
@@ -197,12 +235,12 @@ pub fn handle_packet(
             session,
         };
     };
-    respond(slot, session, tag, memory, packet, request, reply)
+    respond(layout, session, tag, memory, packet, request, reply)
 }
 
 // One packet of a run, taken: the session record after it.
 fn handle_next(
-    slot: Slot,
+    layout: Layout,
     session: Session,
     tag: &mut [u8; 32],
     memory: &mut [u8],
@@ -212,25 +250,25 @@ fn handle_next(
     reply: &mut [u8],
 ) -> Session
     requires { ⌜ (at ≤ end) × (end ≤ length (now run)) ⌝ }
-    ensures { λ r. ⌜ stateOf (now (memory .exit)) (now (tag .exit)) r ≡ handle slot (stateOf (now (memory .entry)) (now (tag .entry)) session)
+    ensures { λ r. ⌜ stateOf (now (memory .exit)) (now (tag .exit)) r ≡ handle layout (stateOf (now (memory .entry)) (now (tag .entry)) session)
         (partOf (now (run .entry)) at (end - at)) (now (reply .entry)) .state ⌝ }
-    ensures { λ _. ⌜ now (reply .exit) ≡ handle slot (stateOf (now (memory .entry)) (now (tag .entry)) session)
+    ensures { λ _. ⌜ now (reply .exit) ≡ handle layout (stateOf (now (memory .entry)) (now (tag .entry)) session)
         (partOf (now (run .entry)) at (end - at)) (now (reply .entry)) .reply ⌝ }
 {
-    let handled = handle_packet(slot, session, tag, memory, &run[at..end], reply);
+    let handled = handle_packet(layout, session, tag, memory, &run[at..end], reply);
     handled.session
 }
 
 // Takes a run of packets from a closed session on, each behind its length in two bytes, the high one first, as far as they are whole. Gives
 // the session record after the last, and leaves what the calls left. What every history of packets keeps, it keeps.
 pub fn handle_run(
-    slot: Slot,
+    layout: Layout,
     tag: &mut [u8; 32],
     memory: &mut [u8],
     run: &[u8],
     reply: &mut [u8],
 ) -> Session
-    ensures { λ r. ⌜ Ran slot (now (memory .entry)) (now (run .entry)) (now (reply .entry)) (now (memory .exit)) (now (tag .exit)) r (now (reply .exit)) ⌝ }
+    ensures { λ r. ⌜ Ran layout (now (memory .entry)) (now (run .entry)) (now (reply .entry)) (now (memory .exit)) (now (tag .exit)) r (now (reply .exit)) ⌝ }
 {
     let mut session = slot::closed_session();
     *tag = [0u8; 32];
@@ -242,7 +280,7 @@ pub fn handle_run(
             return session;
         }
         let end = start + size;
-        session = handle_next(slot, session, tag, memory, run, start, end, reply);
+        session = handle_next(layout, session, tag, memory, run, start, end, reply);
         at = end;
     }
     session

@@ -87,14 +87,14 @@ frame-determined =
 
 -- what configuring gave, from what it said
 abbrev unready : slots.Said → Configured
-unready (slots.ready slot) = Configured.Ready slot
+unready (slots.ready layout) = Configured.Ready layout
 unready (slots.refused n) = Configured.Refused (refusalOf n)
 
 pub configured-determined : ConfiguredDetermined
 configured-determined = by-return slots.said unready back
   where
     back : (c : Configured) → unready (slots.said c) ≡ c
-    back (Configured.Ready slot) = refl
+    back (Configured.Ready layout) = refl
     back (Configured.Refused r) = ap Configured.Refused (number-back r)
 
 -- what the request call gave, from what it said

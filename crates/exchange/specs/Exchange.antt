@@ -12,6 +12,7 @@ use Rattle.laws.specs.Bytes.{Bytes}
 use Rattle.laws.specs.declared.Run.{Run}
 use Rattle.reason.specs.declared.Reason.{Reason}
 use Rattle.slot.specs.declared.Slot.{Slot}
+use Rattle.slot.specs.declared.Layout.{Layout}
 use Rattle.slot.specs.declared.Upload.{Upload}
 use Rattle.slot.specs.Session.{State, possible}
 use Rattle.slot.specs.Plan.{planOf}
@@ -21,16 +22,18 @@ use Rattle.smp.specs.declared.Reading.{Reading}
 use Rattle.smp.specs.declared.Reply.{Reply as Answered}
 use Rattle.smp.specs.Packet.{headerIn}
 use Rattle.smp.specs.Request.{readRequest}
-use Rattle.smp.specs.Reply.{replyMap, replyHeader}
-use Rattle.controller.specs.Doing.{replyTo, replyFor}
+use Rattle.smp.specs.Reply.{replyHeader}
+use Rattle.controller.specs.declared.Response.{Response}
+use Rattle.controller.specs.Doing.{replyTo, responseFor, responseMap}
 use Rattle.controller.specs.Handle.{Outcome, replied, request, saidBy, handle}
 use Rattle.host.specs.Write.{packet, writeUpload}
 use Rattle.host.specs.Read.{reply, readReply}
 use Rattle.host.specs.Meant.{sent, UploadIs, rcMeant, offMeant, textMeant, TextIs}
 
--- what is replied to the packet p, where a is the answer: "An echo reply longer than its buffer becomes rc 7."
-unfoldable pub answerIn : List ℕ → Answered → ℕ → Answered
-answerIn p a room = pick (ltb room (8 + length (replyMap p a))) (Answered.Refused Reason.ReplyTooLong) a
+-- what is replied to the packet p, where x is the response and m the memory: "An echo reply longer than its buffer becomes rc 7", "a list that
+-- doesn't fit rc 7"
+unfoldable pub answerIn : Layout → List ℕ → List ℕ → Response → ℕ → Response
+answerIn layout m p x room = pick (ltb room (8 + length (responseMap layout m p x))) (Response.Reply (Answered.Refused Reason.ReplyTooLong)) x
 
 -- the call with the outcome o, for the request r of the packet p, says that it wrote n bytes, and the host reads them as the answer a to that
 -- packet: op plus 1, its group, sequence number and command, and the return code, the offset and the text that were meant
@@ -40,12 +43,14 @@ pub record Exchanged (p : List ℕ) (r : Request) (a : Answered) (o : Outcome) (
       ≡ reply (record { header = replyHeader (headerIn p) (n - 8); rc = rcMeant a; off = offMeant a; text = textMeant a start })
   pub text : TextIs p a (take n (o .reply)) start
 
--- of every request that is not refused, the host reads the reply as it was meant
+-- of every request that is not refused, the host reads the reply as it was meant, but for a list, which is none that it knows
 abbrev pub Exchange : Type 0
 Exchange =
-    (slot : Slot) (st : State) (p b : List ℕ) (r : Request) → possible slot st ≡ true → 32 ≤ length b → Bytes p → readRequest p ≡ Reading.Is r
-    → (n : ℕ) × (start : ℕ)
-    × Exchanged p r (answerIn p (replyFor slot st (handle slot st p b .state) p r) (length b)) (handle slot st p b) n start
+    (layout : Layout) (st : State) (p b : List ℕ) (r : Request) (a : Answered) → possible layout st ≡ true → 32 ≤ length b → Bytes p
+    → readRequest p ≡ Reading.Is r
+    → answerIn layout (handle layout st p b .state .memory) p (responseFor (layout .slot1) st (handle layout st p b .state) p r) (length b)
+    ≡ Response.Reply a
+    → (n : ℕ) × (start : ℕ) × Exchanged p r a (handle layout st p b) n start
 
 -- the packet p of an upload, with the sequence number that the host gave it, was read as u, which is the upload that was meant; its plan was
 -- carried out; and the host reads the answer to that plan, with the same sequence number
@@ -62,11 +67,12 @@ pub record UploadAnswered (slot : Slot) (st : State) (sequence : ℕ) (x : List 
         text = Run.Absent;
       })
 
--- of every upload that was written, where the slot and the record are possible and the reply buffer is of 32 bytes or more
+-- of every upload that was written, where the regions and the record are possible and the reply buffer is of 32 bytes or more
 abbrev pub UploadExchange : Type 0
 UploadExchange =
-    (slot : Slot) (st : State) (sequence : ℕ) (x : List ℕ) (off size : ℕ) (tag out b : List ℕ) (k : ℕ) → possible slot st ≡ true → 32 ≤ length b
+    (layout : Layout) (st : State) (sequence : ℕ) (x : List ℕ) (off size : ℕ) (tag out b : List ℕ) (k : ℕ) → possible layout st ≡ true
+    → 32 ≤ length b
     → writeUpload sequence x off size tag out .says ≡ packet k
     → (u : Upload) × (n : ℕ)
-    × UploadAnswered slot st sequence x off size tag (sent (writeUpload sequence x off size tag out) k)
-    (handle slot st (sent (writeUpload sequence x off size tag out) k) b) u n
+    × UploadAnswered (layout .slot1) st sequence x off size tag (sent (writeUpload sequence x off size tag out) k)
+    (handle layout st (sent (writeUpload sequence x off size tag out) k) b) u n

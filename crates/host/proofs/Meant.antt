@@ -162,7 +162,7 @@ reset-meant sequence out n e =
       read =
           request-read 0 sequence 5 (mapOf 0) (lit< tt) (w .0) Command.Reset (reset-command sequence (length (mapOf 0)))
           ∙ ap (λ (m : Option (List ℕ)). Reading.Is (mapped (λ (f : List ℕ). Request.Reset) m))
-          (empty-read Kind.Reset p (front 0 sequence 5 (mapOf 0)) (request-parts 0 sequence 5 (mapOf 0)) (front-length 0 sequence 5 (mapOf 0)));
+          (empty-read Kind.Bare p (front 0 sequence 5 (mapOf 0)) (request-parts 0 sequence 5 (mapOf 0)) (front-length 0 sequence 5 (mapOf 0)));
     })
 
 -- so is an erase

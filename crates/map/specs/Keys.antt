@@ -9,7 +9,7 @@ use Rattle.laws.specs.Bytes.{same}
 use Rattle.cbor.specs.declared.Value.{Value}
 use Rattle.cbor.specs.declared.Value.the-variants.{Unsigned, Negative, Bytes, Null}
 use Rattle.map.specs.declared.Kind.{Kind}
-use Rattle.map.specs.declared.Kind.the-variants.{Echo, Reset, Upload, Erase, Reply}
+use Rattle.map.specs.declared.Kind.the-variants.{Echo, Bare, Upload, Erase, Reply}
 use Rattle.map.specs.declared.Key.{Key}
 
 -- the keys' names, in ASCII: "d", "r", "data", "sha", "off", "len", "image", "upgrade", "slot", "rc"
@@ -43,11 +43,11 @@ nameSlot = 0x73 ∷ 0x6C ∷ 0x6F ∷ 0x74 ∷ []
 abbrev pub nameRc : List ℕ
 nameRc = 0x72 ∷ 0x63 ∷ []
 
--- "Known keys, those listed for the command": echo "d"; reset none; upload "data", "off", "len", "image", "sha", "upgrade"; erase "slot";
+-- "Known keys, those listed for the command": echo "d"; reset and the state read none; upload "data", "off", "len", "image", "sha", "upgrade"; erase "slot";
 -- a reply "rc", "off", "r"
 unfoldable pub keyOf : Kind → List ℕ → Key
 keyOf Echo k = pick (same k nameD) Key.Text Key.Other
-keyOf Reset k = Key.Other
+keyOf Bare k = Key.Other
 keyOf Upload k =
     pick (same k nameData) Key.Data
     (pick (same k nameOff) Key.Off

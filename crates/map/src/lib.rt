@@ -17,7 +17,8 @@ ghost use Rattle.map.specs.Inner.{laterName, Finds, Reads};
 // Whose map it is: what differs is which keys are known.
 pub enum Kind {
     Echo,
-    Reset,
+    // of a command without keys of its own: reset and the state read
+    Bare,
     Upload,
     Erase,
     Reply,
@@ -115,7 +116,7 @@ fn key_of(kind: Kind, s: &[u8], start: usize, len: usize) -> Key
             }
             return Key::Other;
         }
-        Kind::Reset => {
+        Kind::Bare => {
             return Key::Other;
         }
         Kind::Upload => {

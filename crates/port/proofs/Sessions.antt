@@ -1,6 +1,6 @@
 -- What the request call leaves in the session record fits the arrays of 32-bit numbers.
 -- Assumes nothing.
-use mathlib.Core.Path.{_≡_, refl, sym, ap, subst, _∙_}
+use mathlib.Core.Path.{_≡_, refl, sym, ap, ap₂, subst, _∙_}
 use mathlib.Core.Bool.{Bool, true, false, not}
 use mathlib.Core.List.{List, [], _∷_}
 use Prim.Native.Nat.{ℕ, _+_, _≤_, _<_}
@@ -15,22 +15,27 @@ use Rattle.reason.specs.Rc.{rcOf}
 use Rattle.cbor.specs.Write.{headOf}
 use Rattle.cbor.proofs.Laws.{head-long, len-most}
 use Rattle.slot.specs.declared.Slot.{Slot}
+use Rattle.slot.specs.declared.Layout.{Layout}
 use Rattle.slot.specs.declared.Session.{Session}
-use Rattle.slot.specs.Session.{regionOk, sessionOk, State, stateOf, possible}
+use Rattle.slot.specs.Session.{layoutOk, sessionOk, State, stateOf, possible}
 use Rattle.slot.specs.Act.{Act, done}
 use Rattle.slot.specs.History.{Fit}
-use Rattle.slot.proofs.Laws.{region-bounds}
+use Rattle.slot.proofs.Laws.{region-bounds, layout-bounds}
 use Rattle.smp.specs.declared.Header.{Header}
 use Rattle.smp.specs.declared.Reply.{Reply}
 use Rattle.smp.specs.declared.Reading.{Reading}
 use Rattle.smp.specs.Packet.{headerIn}
 use Rattle.smp.specs.Request.{readRequest}
-use Rattle.smp.specs.Reply.{rcMap, replyMap, replyPacket, replyBytes, Sayable}
+use Rattle.smp.specs.Reply.{rcMap, replyMap, replyPacket, replyBytes}
 use Rattle.smp.proofs.Writing.{rc-length, placed-length, packet-length, rc-map, text-map}
+use Rattle.listing.specs.Listing.{listMap}
+use Rattle.listing.proofs.Laws.{list-length}
+use Rattle.controller.specs.declared.Response.{Response}
 use Rattle.controller.specs.declared.Handled.{Handled}
 use Rattle.controller.specs.declared.Answer.{Answer}
 use Rattle.controller.specs.declared.Answer.the-variants.{Replied, ResetAsked, Refused}
-use Rattle.controller.specs.Doing.{actFor, replyFor, asksReset}
+use Rattle.controller.specs.Doing.{actFor, responseFor, responseMap, asksReset}
+use Rattle.controller.specs.Inner.{Answerable}
 use Rattle.controller.specs.Handle.{
   Said,
   said,
@@ -48,9 +53,9 @@ use Rattle.controller.specs.Handle.{
   handled,
   handle,
 }
-use Rattle.controller.proofs.Laws.{taking-impossible, handle-refused, reply-sayable}
+use Rattle.controller.proofs.Laws.{taking-impossible, handle-refused, response-answerable}
 use Rattle.controller.proofs.Calls.{call-fit}
-use Rattle.port.specs.Records.{sessionOf, sessionNumbers}
+use Rattle.port.specs.Records.{layoutOf, sessionOf, sessionNumbers}
 use Rattle.port.specs.Calls.{HandledC, handledBy, handledC}
 use Rattle.port.specs.Inner.{Held32}
 
@@ -64,19 +69,22 @@ fit-small slot st Act.erase h k f = (omega arith, omega arith)
 fit-small slot st Act.end h k f = (omega arith, omega arith)
 
 -- so does a call that is possible
-call-small : (slot : Slot) (st : State) (p b : List ℕ) → possible slot st ≡ true → Held32 (st .session) → Held32 (handle slot st p b .state .session)
+call-small : (layout : Layout) (st : State) (p b : List ℕ) → possible layout st ≡ true → Held32 (st .session)
+    → Held32 (handle layout st p b .state .session)
 unfolding handled
-call-small slot st p b h k =
-    let oks = both-true (regionOk slot (length (st .memory))) (sessionOk slot (st .session)) h in
-    fit-small slot st (actBy slot st p (taking slot st p b)) (region-bounds slot (length (st .memory)) (oks .0) .within) k (call-fit slot st p b)
+call-small layout st p b h k =
+    let oks = both-true (layoutOk layout (length (st .memory))) (sessionOk (layout .slot1) (st .session)) h in
+    let region = layout-bounds layout (length (st .memory)) (oks .0) .upload in
+    fit-small (layout .slot1) st (actBy (layout .slot1) st p (taking layout st p b)) (region-bounds (layout .slot1) (length (st .memory)) region .within) k
+    (call-fit layout st p b)
 
 -- so does any call
-any-small : (slot : Slot) (st : State) (p b : List ℕ) → Held32 (st .session) → Held32 (handle slot st p b .state .session)
-any-small slot st p b k = by-test (possible slot st) refl
+any-small : (layout : Layout) (st : State) (p b : List ℕ) → Held32 (st .session) → Held32 (handle layout st p b .state .session)
+any-small layout st p b k = by-test (possible layout st) refl
   where
-    by-test : (t : Bool) → possible slot st ≡ t → Held32 (handle slot st p b .state .session)
-    by-test true e = call-small slot st p b e k
-    by-test false e = subst (λ (o : Outcome). Held32 (o .state .session)) (sym (handle-refused slot st p b 1 (taking-impossible slot st p b e))) k
+    by-test : (t : Bool) → possible layout st ≡ t → Held32 (handle layout st p b .state .session)
+    by-test true e = call-small layout st p b e k
+    by-test false e = subst (λ (o : Outcome). Held32 (o .state .session)) (sym (handle-refused layout st p b 1 (taking-impossible layout st p b e))) k
 
 -- a reply's length is small
 abbrev pub SaidSmall : Said → Type 0
@@ -88,40 +96,49 @@ SaidSmall (refused n) = Unit {0}
 head-nine : (m n : ℕ) → length (headOf m n) ≤ 9
 head-nine m n = subst (λ (k : ℕ). k ≤ 9) (sym (head-long m n)) (len-most n)
 
--- a reply that can be said is small
-bytes-small : (h : Header) (p : List ℕ) (r : Reply) (room : ℕ) → Sayable p r → length (replyBytes h p r room) < 4294967296
-unfolding replyBytes replyMap
-bytes-small h p r room s =
-    pick-case (λ (x : List ℕ). length x < 4294967296) (ltb room (8 + length (replyMap p r))) _ _ (λ e. omega (arith, rc-length h 7 (lit< tt))) (λ e. meant r s)
+-- a response that can be written is small
+bytes-small : (layout : Layout) (h : Header) (m p : List ℕ) (x : Response) (room : ℕ) → Answerable p x
+    → length (replyBytes h (responseMap layout m p x) room) < 4294967296
+unfolding replyBytes responseMap replyMap
+bytes-small layout h m p x room s =
+    pick-case (λ (y : List ℕ). length y < 4294967296) (ltb room (8 + length (responseMap layout m p x))) _ _ (λ e. omega (arith, rc-length h 7 (lit< tt)))
+    (λ e. meant x s)
   where
-    meant : (r : Reply) → Sayable p r → length (replyPacket h (replyMap p r)) < 4294967296
-    meant (Reply.Refused why) s = omega (arith, packet-length h (rcMap (rcOf why)), rc-map (rcOf why), head-nine 0 (rcOf why))
-    meant Reply.Done s = omega (arith, rc-length h 0 (lit< tt))
-    meant (Reply.Placed n) s = omega (arith, placed-length h p n s)
-    meant (Reply.Text start len) s =
+    meant : (x : Response) → Answerable p x → length (replyPacket h (responseMap layout m p x)) < 4294967296
+    meant (Response.Reply (Reply.Refused why)) s = omega (arith, packet-length h (rcMap (rcOf why)), rc-map (rcOf why), head-nine 0 (rcOf why))
+    meant (Response.Reply Reply.Done) s = omega (arith, rc-length h 0 (lit< tt))
+    meant (Response.Reply (Reply.Placed n)) s = omega (arith, placed-length h p n s)
+    meant (Response.Reply (Reply.Text start len)) s =
         omega (arith, packet-length h (replyMap p (Reply.Text start len)), text-map p start len (s .0), head-nine 0 len, s .0, s .1)
+    meant Response.Images s = omega (arith, packet-length h (listMap m layout), list-length m layout)
 
 -- what any call says is small
-said-small : (slot : Slot) (st : State) (p b : List ℕ) → SaidSmall (handle slot st p b .says)
+said-small : (layout : Layout) (st : State) (p b : List ℕ) → SaidSmall (handle layout st p b .says)
 unfolding handled taking saidBy bytesBy actBy asked
-said-small slot st p b =
-    let small : Taking → Type 0 = λ t. SaidSmall (handled slot st p b t .says) in
-    pick-case small (not (possible slot st)) _ _ (λ e. tt)
-    (λ e. pick-case small (ltb (length b) 32) _ _ (λ f. tt) (λ f. read (not-false (possible slot st) e) (readRequest p) refl))
+said-small layout st p b =
+    let small : Taking → Type 0 = λ t. SaidSmall (handled layout st p b t .says) in
+    pick-case small (not (possible layout st)) _ _ (λ e. tt)
+    (λ e. pick-case small (ltb (length b) 32) _ _ (λ f. tt) (λ f. read (not-false (possible layout st) e) (readRequest p) refl))
   where
-    read : possible slot st ≡ true → (t : Reading) → readRequest p ≡ t → SaidSmall (handled slot st p b (asked t) .says)
+    read : possible layout st ≡ true → (t : Reading) → readRequest p ≡ t → SaidSmall (handled layout st p b (asked t) .says)
     read h Reading.NotARequest e = tt
     read h (Reading.Is r) e =
-        let n = bytes-small (headerIn p) p (replyFor slot st (done slot (actFor slot st p r) st) p r) (length b) (reply-sayable slot st p r h e) in
+        let slot = layout .slot1 in
+        let after = done slot (actFor slot st p r) st in
+        let oks = both-true (layoutOk layout (length (st .memory))) (sessionOk slot (st .session)) h in
+        let can = response-answerable slot st p r (layout-bounds layout (length (st .memory)) (oks .0) .upload) (oks .1) e in
+        let n = bytes-small layout (headerIn p) (after .memory) p (responseFor slot st after p r) (length b) can in
         pick-case SaidSmall (asksReset r) _ _ (λ f. n) (λ f. n)
 
 -- what the call gave and left, as the C call's own outcome
-pub handled-is : (m : List ℕ) (start size : ℕ) (s tag p b a : List ℕ) (h : Handled) (m′ tag′ b′ : List ℕ) (before : Session) → before ≡ sessionOf s
-    → outcome h m′ tag′ b′ ≡ handle (record { start = start; size = size }) (stateOf m tag before) p b
-    → handledC m start size s tag p b a ≡ handledBy s a (outcome h m′ tag′ b′) (said (h .answer))
+pub handled-is : (l m s tag p b a : List ℕ) (layout : Layout) (h : Handled) (m′ tag′ b′ : List ℕ) (before : Session) → layout ≡ layoutOf l
+    → before ≡ sessionOf s
+    → outcome h m′ tag′ b′ ≡ handle layout (stateOf m tag before) p b
+    → handledC l m s tag p b a ≡ handledBy s a (outcome h m′ tag′ b′) (said (h .answer))
 unfolding handledC
-handled-is m start size s tag p b a h m′ tag′ b′ before e f =
-    ap (λ (o : Outcome). handledBy s a o (o .says)) (sym (f ∙ ap (λ (k : Session). handle (record { start = start; size = size }) (stateOf m tag k) p b) e))
+handled-is l m s tag p b a layout h m′ tag′ b′ before d e f =
+    ap (λ (o : Outcome). handledBy s a o (o .says))
+    (sym (f ∙ ap₂ (λ (x : Layout) (k : Session). handle x (stateOf m tag k) p b) d e))
 
 -- each answer, handed over
 module _ (s a : List ℕ) (h : Handled) (m tag b : List ℕ) where
@@ -150,10 +167,10 @@ module _ (s a : List ℕ) (h : Handled) (m tag b : List ℕ) where
       ∙ ap (λ (k : Answer). handledBy s a (outcome h m tag b) (said k)) (sym e)
 
 -- what a call gave is small
-pub given-small : (slot : Slot) (st : State) (p b : List ℕ) (h : Handled) (m′ tag′ b′ : List ℕ) → outcome h m′ tag′ b′ ≡ handle slot st p b
+pub given-small : (layout : Layout) (st : State) (p b : List ℕ) (h : Handled) (m′ tag′ b′ : List ℕ) → outcome h m′ tag′ b′ ≡ handle layout st p b
     → Held32 (st .session)
     → Held32 (h .session) × SaidSmall (said (h .answer))
-given-small slot st p b h m′ tag′ b′ e k = (
-  subst (λ (o : Outcome). Held32 (o .state .session)) (sym e) (any-small slot st p b k),
-  subst (λ (o : Outcome). SaidSmall (o .says)) (sym e) (said-small slot st p b),
+given-small layout st p b h m′ tag′ b′ e k = (
+  subst (λ (o : Outcome). Held32 (o .state .session)) (sym e) (any-small layout st p b k),
+  subst (λ (o : Outcome). SaidSmall (o .says)) (sym e) (said-small layout st p b),
 )

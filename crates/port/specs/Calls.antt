@@ -9,12 +9,11 @@ use Rattle.collector.specs.Collector as collecting
 use Rattle.reader.specs.declared.Reader.{Reader}
 use Rattle.reader.specs.Reader as reading
 use Rattle.sender.specs.Sender as sending
-use Rattle.slot.specs.declared.Slot.{Slot}
 use Rattle.slot.specs.Session as slots
 use Rattle.controller.specs.Handle as handling
 use Rattle.host.specs.Write as writing
 use Rattle.host.specs.Read as hearing
-use Rattle.port.specs.Records.{collectorOf, collectorNumbers, readerOf, readerNumbers, sessionOf, sessionNumbers, replyNumbers}
+use Rattle.port.specs.Records.{layoutOf, collectorOf, collectorNumbers, readerOf, readerNumbers, sessionOf, sessionNumbers, replyNumbers}
 
 -- bg_collect: the result, the record's numbers and bytes, the line array and the two numbers
 pub record CollectedC : Type 0 where
@@ -101,11 +100,11 @@ pub record ConfiguredC : Type 0 where
   pub tag : List ℕ
 
 unfoldable pub configuredBy : List ℕ → List ℕ → slots.Said → ConfiguredC
-configuredBy s tag (slots.ready slot) = record { result = 0; session = sessionNumbers slots.closed; tag = slots.noTag }
+configuredBy s tag (slots.ready layout) = record { result = 0; session = sessionNumbers slots.closed; tag = slots.noTag }
 configuredBy s tag (slots.refused n) = record { result = n; session = s; tag = tag }
 
-unfoldable pub configuredC : ℕ → ℕ → ℕ → List ℕ → List ℕ → ConfiguredC
-configuredC start size m s tag = configuredBy s tag (slots.configured start size m)
+unfoldable pub configuredC : List ℕ → ℕ → List ℕ → List ℕ → ConfiguredC
+configuredC layout m s tag = configuredBy s tag (slots.configured (layoutOf layout) m)
 
 -- bg_handle: the result, the memory, the session numbers and the tag, the reply buffer and the two numbers
 pub record HandledC : Type 0 where
@@ -128,10 +127,9 @@ handledBy s a o (handling.resetAsked n) = repliedC n 1 (o .state) (o .reply)
 handledBy s a o (handling.refused n) =
     record { result = n; memory = o .state .memory; session = s; tag = o .state .tag; reply = o .reply; answer = a }
 
-unfoldable pub handledC : List ℕ → ℕ → ℕ → List ℕ → List ℕ → List ℕ → List ℕ → List ℕ → HandledC
-handledC m start size s tag p b a =
-    let slot : Slot = record { start = start; size = size } in
-    let o : handling.Outcome = handling.handle slot (slots.stateOf m tag (sessionOf s)) p b in
+unfoldable pub handledC : List ℕ → List ℕ → List ℕ → List ℕ → List ℕ → List ℕ → List ℕ → HandledC
+handledC layout m s tag p b a =
+    let o : handling.Outcome = handling.handle (layoutOf layout) (slots.stateOf m tag (sessionOf s)) p b in
     handledBy s a o (o .says)
 
 -- the request writers: the result, the output and *packet_len

@@ -11,6 +11,7 @@ use Rattle.laws.specs.Choice.{pick}
 use Rattle.collector.specs.declared.Collector.{Collector}
 use Rattle.reader.specs.declared.Reader.{Reader}
 use Rattle.reader.specs.declared.Reader.the-variants.{Idle, Open}
+use Rattle.slot.specs.declared.Layout.{Layout}
 use Rattle.slot.specs.declared.Session.{Session}
 use Rattle.map.specs.Fields.{flagNumber}
 use Rattle.host.specs.declared.Reply.{Reply}
@@ -44,6 +45,14 @@ readerOf r = readerFrom (getD r 0 0) (getD r 1 0) (getD r 2 0) (getD r 3 0)
 unfoldable pub readerNumbers : Reader → List ℕ
 readerNumbers Idle = 0 ∷ 0 ∷ 0 ∷ 0 ∷ []
 readerNumbers (Open total come first) = 1 ∷ total ∷ come ∷ first ∷ []
+
+-- the two regions by their numbers
+abbrev pub layoutFrom : ℕ → ℕ → ℕ → ℕ → Layout
+layoutFrom start₀ size₀ start₁ size₁ = record { slot0 = record { start = start₀; size = size₀ }; slot1 = record { start = start₁; size = size₁ } }
+
+-- the layout { slot 0's start, slot 0's size, the upload slot's start, its size }
+abbrev pub layoutOf : List ℕ → Layout
+layoutOf l = layoutFrom (getD l 0 0) (getD l 1 0) (getD l 2 0) (getD l 3 0)
 
 -- the session record by its numbers
 abbrev pub sessionFrom : ℕ → ℕ → ℕ → ℕ → Session

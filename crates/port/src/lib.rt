@@ -11,6 +11,7 @@ use reader::Answer;
 use reader::Reader;
 use sender::Sent;
 use slot::Configured;
+use slot::Layout;
 use slot::Session;
 use slot::Slot;
 ghost use mathlib.Core.Path.{_≡_};
@@ -20,7 +21,7 @@ ghost use lib.ListN.{length};
 ghost use Rattle.map.specs.Fields.{flagNumber};
 ghost use Rattle.frame.specs.Line.{longest};
 ghost use Rattle.collector.specs.Collector.{most, said};
-ghost use Rattle.port.specs.Records.{collectorFrom, collectorNumbers, readerNumbers, sessionNumbers, flagOf, readerFrom, sessionFrom, thereOf};
+ghost use Rattle.port.specs.Records.{layoutFrom, collectorFrom, collectorNumbers, readerNumbers, sessionNumbers, flagOf, readerFrom, sessionFrom, thereOf};
 ghost use Rattle.port.specs.Records.{runThere, runStart, runLength, replyNumbers};
 ghost use Rattle.port.specs.Calls.{stepResult, stepLength, wentOn, collectedC, tookLine, keepsRecord, handledC, wroteBy, wroteC, sentFrame, configuredC, readC};
 ghost use Rattle.port.specs.Inner.{Storable, Held32};
@@ -243,12 +244,26 @@ pub extern "C" fn bg_collect(
     result
 }
 
+// The two regions out of their four numbers.
+fn layout_from(start0: usize, size0: usize, start1: usize, size1: usize) -> Layout
+    ensures { λ r. ⌜ r ≡ layoutFrom start0 size0 start1 size1 ⌝ }
+{
+    let slot0 = Slot {
+        start: start0,
+        size: size0,
+    };
+    let slot1 = Slot {
+        start: start1,
+        size: size1,
+    };
+    Layout { slot0, slot1 }
+}
+
 // Takes one request packet: see include/belagunthi.h.
 #[no_mangle]
 pub extern "C" fn bg_handle(
+    layout: &[usize; 4],
     memory: &mut [u8],
-    start: usize,
-    size: usize,
     record: &mut [u32; 4],
     tag: &mut [u8; 32],
     packet: &[u8],
@@ -263,12 +278,12 @@ pub extern "C" fn bg_handle(
       reply = now
           (reply .exit);
       answer = now (answer .exit);
-    } ≡ handledC (now (memory .entry)) start size (now («record» .entry)) (now (tag .entry))
+    } ≡ handledC (now (layout .entry)) (now (memory .entry)) (now («record» .entry)) (now (tag .entry))
         (now (packet .entry)) (now (reply .entry)) (now (answer .entry)) ⌝ }
 {
     let before = session_from(record[0], record[1], record[2], record[3]);
-    let slot = Slot { start, size };
-    let handled = controller::handle_packet(slot, before, tag, memory, packet, reply);
+    let regions = layout_from(layout[0], layout[1], layout[2], layout[3]);
+    let handled = controller::handle_packet(regions, before, tag, memory, packet, reply);
     let said = handled.answer;
     let after = handled.session;
     match said {
@@ -385,19 +400,19 @@ pub extern "C" fn bg_send_frame(body: &[u8], k: usize, out: &mut [u8], sent: &mu
     }
 }
 
-// Says whether a slot is possible in a memory of this many bytes; if so, the session record is made a closed one.
+// Says whether the two regions are possible in a memory of this many bytes; if so, the session record is made a closed one.
 #[no_mangle]
 pub extern "C" fn bg_configure(
-    start: usize,
-    size: usize,
+    layout: &[usize; 4],
     room: usize,
     session: &mut [u32; 4],
     tag: &mut [u8; 32],
 ) -> u32
-    ensures { λ r. ⌜ record { result = r; session = now (session .exit); tag = now (tag .exit) } ≡ configuredC start size room
+    ensures { λ r. ⌜ record { result = r; session = now (session .exit); tag = now (tag .exit) } ≡ configuredC (now (layout .entry)) room
         (now (session .entry)) (now (tag .entry)) ⌝ }
 {
-    match slot::configure(start, size, room) {
+    let regions = layout_from(layout[0], layout[1], layout[2], layout[3]);
+    match slot::configure(regions, room) {
         Configured::Ready(_) => {
             *session = [0u32; 4];
             *tag = [0u8; 32];

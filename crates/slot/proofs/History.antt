@@ -4,7 +4,9 @@
 use mathlib.Core.Path.{_≡_, refl, sym, ap, ap₂, subst, _∙_}
 use mathlib.Core.Bool.{true, false, false≢true}
 use mathlib.Core.List.{List, [], _∷_, _++_, append-assoc, append-nil}
-use Prim.Native.Nat.{ℕ, _+_, _-_, _≤_}
+use Prim.Native.Nat.{ℕ, zero, suc, _+_, _-_, _≤_, min, max}
+use native.Mathlib.Decide.{decLe}
+use borrow.Author.Tests.{ltb-false}
 use native.Mathlib.Nat.{add-zero}
 use native.Mathlib.Omega.{arith}
 use lib.ListN.{
@@ -19,14 +21,14 @@ use lib.ListN.{
   replicate-append-replicate,
   drop-of-length-le,
 }
-use lib.Seq.{take-at, drop-at, take-add, drop-drop, length-take-le, take-append-add, take-append-le, drop-append-add, drop-append-le}
+use lib.Seq.{take-at, drop-at, take-take, take-add, drop-drop, length-take-le, take-append-add, take-append-le, drop-append-add, drop-append-le}
 use Rattle.laws.specs.Bytes.{pasted}
 use Rattle.laws.proofs.Lists.{pasted-is, pasted-start, pasted-length, pasted-take, pasted-drop}
 use Rattle.slot.specs.declared.Slot.{Slot}
-use Rattle.slot.specs.Session.{regionOk, sessionOk, State, closed}
+use Rattle.slot.specs.Session.{regionOk, overlapping, sessionOk, State, closed}
 use Rattle.slot.specs.Act.{Act, keep, append, start, erase, end, blank, done}
 use Rattle.slot.specs.History.{Fit, History, begun, went, written, slotIn, Held, Demand, CutFrom, Sending, starts, goes-on, Unbroken, SameMemory}
-use Rattle.slot.proofs.Laws.{region-bounds, session-bounds, session-is, session-closed}
+use Rattle.slot.proofs.Laws.{region-bounds, layout-bounds, session-bounds, session-is, session-closed}
 
 -- equal bytes without the first of them
 drop-replicate : (k n v : ℕ) → k ≤ n → drop k (replicate n v) ≡ replicate (n - k) v
@@ -215,13 +217,63 @@ step-held slot first acts st erase region h fit =
 step-held slot first acts st end region h fit =
     record { below = h .below; beyond = h .beyond; size = h .size; possible = session-closed slot closed refl; joined = never; blank-after = never }
 
--- the demand, in any history: by its acts, one at a time
-pub demand : Demand
-demand slot first acts st region e history = all history
+-- the demand on the upload slot, in any history: by its acts, one at a time
+held-always : (slot : Slot) (first : State) (acts : List Act) (st : State) → regionOk slot (length (first .memory)) ≡ true
+    → first .session .running ≡ false
+    → History slot first acts st
+    → Held slot first acts st
+held-always slot first acts st region e history = all history
   where
     all : {acts : List Act} {st : State} → History slot first acts st → Held slot first acts st
     all begun = begun-held slot first e
     all (went {acts} {st} before a fit) = step-held slot first acts st a region (all before) fit
+
+-- a part of a list that ends early is a part of the list's front
+part-take : (k a n : ℕ) (l : List ℕ) → a + n ≤ k → take n (drop a l) ≡ take n (drop a (take k l))
+part-take k zero n l h = sym (take-take n k l (omega arith))
+part-take zero (suc a) n l h = absurd (omega arith)
+part-take (suc k) (suc a) n [] h = refl
+part-take (suc k) (suc a) n (x ∷ l) h = part-take k a n l (omega arith)
+
+-- a region that has no byte of the slot is the same in two memories that are the same outside the slot
+outside-same : (region slot : Slot) (f m : List ℕ) → 1 ≤ slot .size → overlapping region slot ≡ false
+    → take (slot .start) m ≡ take (slot .start) f
+    → drop (slot .start + slot .size) m ≡ drop (slot .start + slot .size) f
+    → slotIn region m ≡ slotIn region f
+unfolding overlapping
+outside-same region slot f m some e below beyond =
+    let apart : min (region .start + region .size) (slot .start + slot .size) ≤ max (region .start) (slot .start) = ltb-false _ _ e in
+    elim (decLe (region .start + region .size) (slot .start)) [
+      | yes h ↦ early m h ∙ ap (λ (l : List ℕ). take (region .size) (drop (region .start) l)) below ∙ sym (early f h)
+      | no h ↦ elim (decLe (slot .start + slot .size) (region .start)) [
+        | yes k ↦ late m k ∙ ap (λ (l : List ℕ). take (region .size) (drop (region .start - (slot .start + slot .size)) l)) beyond ∙ sym (late f k)
+        | no k ↦
+            let none : region .size ≡ 0 = omega (arith, apart) in
+            ap (λ (n : ℕ). take n (drop (region .start) m)) none ∙ sym (ap (λ (n : ℕ). take n (drop (region .start) f)) none)
+      ]
+    ]
+  where
+    early : (l : List ℕ) → region .start + region .size ≤ slot .start → slotIn region l ≡ take (region .size) (drop (region .start) (take (slot .start) l))
+    early l h = part-take (slot .start) (region .start) (region .size) l h
+
+    late : (l : List ℕ) → slot .start + slot .size ≤ region .start
+        → slotIn region l ≡ take (region .size) (drop (region .start - (slot .start + slot .size)) (drop (slot .start + slot .size) l))
+    late l h =
+        let e : slot .start + slot .size + (region .start - (slot .start + slot .size)) ≡ region .start = omega arith in
+        ap (λ (n : ℕ). take (region .size) (drop n l)) (sym e)
+        ∙ ap (λ (q : List ℕ). take (region .size) q) (sym (drop-drop (region .start - (slot .start + slot .size)) (slot .start + slot .size) l))
+
+-- the demand, in any history
+pub demand : Demand
+demand layout first acts st ok e history =
+    let r = layout-bounds layout (length (first .memory)) ok in
+    let h = held-always (layout .slot1) first acts st (r .upload) e history in
+    record {
+      held = h;
+      only-read =
+          outside-same (layout .slot0) (layout .slot1) (first .memory) (st .memory)
+          (region-bounds (layout .slot1) (length (first .memory)) (r .upload) .some) (r .apart) (h .below) (h .beyond);
+    }
 
 -- an open session's place is the count of the bytes written since its start
 written-length : (slot : Slot) (first : State) (acts : List Act) (st : State) → regionOk slot (length (first .memory)) ≡ true
@@ -265,7 +317,7 @@ cut-joined : (slot : Slot) (first : State) (image : List ℕ) → regionOk slot 
 unfolding written
 cut-joined slot first image region e begun cut = refl
 cut-joined slot first image region e (went {acts} {st} before a fit) cut =
-    let held = demand slot first acts st region e before in
+    let held = held-always slot first acts st region e before in
     cut-step slot first acts st a image region held fit (λ before-cut. cut-joined slot first image region e before before-cut) cut
 
 -- chunks that were cut from one image are, joined, as many of its first bytes as the session's place says
@@ -276,7 +328,7 @@ cut-prefix : (slot : Slot) (first : State) (acts : List Act) (st : State) (image
     → CutFrom image acts
     → (written acts ≡ take (st .session .place) image) × (length (take (st .session .place) image) ≡ st .session .place)
 cut-prefix slot first acts st image region e history running cut =
-    let h = demand slot first acts st region e history in
+    let h = held-always slot first acts st region e history in
     let w : length (written acts) ≡ st .session .place = written-length slot first acts st region h running in
     let y : written acts ≡ take (st .session .place) image =
     cut-joined slot first image region e history cut ∙ ap (λ (i : ℕ). take i image) w in (y, ap length (sym y) ∙ w)
@@ -290,7 +342,7 @@ cut-memory : (slot : Slot) (first : State) (acts : List Act) (st : State) (image
     → st .memory ≡ pasted (blank slot (first .memory)) (slot .start) (take (st .session .place) image)
 unfolding blank
 cut-memory slot first acts st image region e history running cut =
-    let h = demand slot first acts st region e history in
+    let h = held-always slot first acts st region e history in
     let r = region-bounds slot (length (first .memory)) region in
     let b = session-bounds slot (st .session) (h .possible) running in
     let p = placed slot (first .memory) (st .memory) (r .inside) (h .size) (h .below) (h .beyond) in
@@ -332,7 +384,7 @@ sending-open slot first image (goes-on before off x cut) (went history a fit) = 
 pub as-unbroken : Unbroken
 unfolding done Fit
 as-unbroken slot first acts st image region e history running cut =
-    let h = demand slot first acts st region e history in
+    let h = held-always slot first acts st region e history in
     let b = session-bounds slot (st .session) (h .possible) running in
     let n = st .session .place in
     let x : List ℕ = take n image in

@@ -3,19 +3,20 @@
 use mathlib.Core.Path.{_≡_, refl, sym, ap, ap₂, _∙_}
 use mathlib.Core.Bool.{Bool, true, false}
 use mathlib.Core.List.{List, _++_, append-nil}
-use Prim.Native.Nat.{ℕ, _+_, _-_, _≤_, _<_}
+use Prim.Native.Nat.{ℕ, _+_, _-_, _≤_, _<_, min, max}
 use native.Mathlib.Omega.{arith}
 use lib.Dec.{ltb, leb, eqb}
 use lib.ListN.{length, take, drop, length-drop, drop-of-length-le}
 use lib.Seq.{take-length, length-take-le}
-use borrow.Author.Tests.{le-leb, lt-leb, le-ltb, lt-ltb, leb-true, leb-false, ltb-true, ltb-false, eqb-true, not-false}
+use borrow.Author.Tests.{le-leb, lt-leb, le-ltb, lt-ltb, leb-true, leb-false, ltb-true, ltb-false, eqb-true, not-true, not-false}
 use Rattle.laws.specs.declared.Run.{Run}
 use Rattle.laws.specs.Bytes.{same}
 use Rattle.laws.specs.Parts.{partOf, bytesIn, isThere, Within}
 use Rattle.laws.proofs.Choice.{pick-yes, pick-no, pick-same, both-yes, both-no, both-last-no, both-true}
 use Rattle.slot.specs.declared.Slot.{Slot}
+use Rattle.slot.specs.declared.Layout.{Layout}
 use Rattle.slot.specs.declared.Session.{Session}
-use Rattle.slot.specs.Session.{regionOk, sessionOk, State, noTag}
+use Rattle.slot.specs.Session.{liesIn, regionOk, overlapping, layoutOk, OverlapIs, sessionOk, State, noTag}
 use Rattle.slot.specs.Plan.{misSized, sameTag}
 use Rattle.slot.specs.Act.{tagKept}
 
@@ -29,23 +30,18 @@ pub region-large : (slot : Slot) (m : ℕ) → 1048576 < slot .size → regionOk
 unfolding regionOk
 region-large slot m h = simp (lt-leb _ _ h, both-no, both-last-no)
 
--- nor is one that ends beyond the memory
-pub region-past : (slot : Slot) (m : ℕ) → m < slot .start + slot .size → regionOk slot m ≡ false
+-- one of a possible size is possible just where it lies in the memory
+pub region-rest : (slot : Slot) (m : ℕ) → 1 ≤ slot .size → slot .size ≤ 1048576 → liesIn slot m ≡ regionOk slot m
 unfolding regionOk
-region-past slot m h = simp (lt-leb _ _ h, both-last-no)
+region-rest slot m h k = simp (le-leb _ _ h, le-leb _ _ k, both-yes)
 
--- a slot within its bounds is possible
-pub region-is : (slot : Slot) (m : ℕ) → 1 ≤ slot .size → slot .size ≤ 1048576 → slot .start + slot .size ≤ m → regionOk slot m ≡ true
-unfolding regionOk
-region-is slot m h k l = simp (le-leb _ _ h, le-leb _ _ k, le-leb _ _ l, both-yes)
-
--- a slot of a possible size, and no longer than the memory, is possible just where it starts early enough
-pub region-last : (slot : Slot) (m : ℕ) → 1 ≤ slot .size → slot .size ≤ 1048576 → slot .size ≤ m → leb (slot .start) (m - slot .size) ≡ regionOk slot m
-region-last slot m h k l = decided (leb (slot .start) (m - slot .size)) refl
+-- a region that is no longer than the memory lies in it just where it starts early enough
+pub lies-last : (slot : Slot) (m : ℕ) → slot .size ≤ m → leb (slot .start) (m - slot .size) ≡ liesIn slot m
+lies-last slot m l = decided (leb (slot .start) (m - slot .size)) refl
   where
-    decided : (b : Bool) → leb (slot .start) (m - slot .size) ≡ b → b ≡ regionOk slot m
-    decided true e = sym (region-is slot m h k (omega (arith, leb-true (slot .start) (m - slot .size) e)))
-    decided false e = sym (region-past slot m (omega (arith, leb-false (slot .start) (m - slot .size) e)))
+    decided : (b : Bool) → leb (slot .start) (m - slot .size) ≡ b → b ≡ liesIn slot m
+    decided true e = sym (le-leb (slot .start + slot .size) m (omega (arith, leb-true (slot .start) (m - slot .size) e)))
+    decided false e = sym (lt-leb (slot .start + slot .size) m (omega (arith, leb-false (slot .start) (m - slot .size) e)))
 
 -- the bounds of a slot
 pub record Region (slot : Slot) (m : ℕ) : Type 0 where
@@ -60,6 +56,31 @@ region-bounds slot m e =
     let a = both-true _ _ e in
     let b = both-true _ _ (a .1) in
     record { some = leb-true _ _ (a .0); within = leb-true _ _ (b .0); inside = leb-true _ _ (b .1) }
+
+-- regions overlap just where a byte is in both
+pub overlap-is : OverlapIs
+unfolding overlapping
+overlap-is a b = (
+  λ e.
+      let l : max (a .start) (b .start) < min (a .start + a .size) (b .start + b .size) = ltb-true _ _ e in
+      (max (a .start) (b .start), ((omega arith, omega arith), (omega arith, omega arith))),
+  λ e i p q.
+      let l : min (a .start + a .size) (b .start + b .size) ≤ max (a .start) (b .start) = ltb-false _ _ e in
+      omega (arith, p .0, p .1, q .0, q .1),
+)
+
+-- what is known of two regions that are possible
+pub record Regions (layout : Layout) (m : ℕ) : Type 0 where
+  pub upload : regionOk (layout .slot1) m ≡ true
+  pub inside : layout .slot0 .start + layout .slot0 .size ≤ m
+  pub apart : overlapping (layout .slot0) (layout .slot1) ≡ false
+
+pub layout-bounds : (layout : Layout) (m : ℕ) → layoutOk layout m ≡ true → Regions layout m
+unfolding layoutOk
+layout-bounds layout m e =
+    let a = both-true _ _ e in
+    let b = both-true _ _ (a .1) in
+    record { upload = a .0; inside = leb-true _ _ (b .0); apart = not-true _ (b .1) }
 
 -- the bounds of an open session
 pub record Bounds (slot : Slot) (s : Session) : Type 0 where

@@ -7,8 +7,9 @@ use mathlib.Core.Bool.{Bool, true, false}
 use mathlib.Core.List.{List, [], _∷_, _++_}
 use lib.ListN.{length, take, drop, replicate}
 use Rattle.slot.specs.declared.Slot.{Slot}
+use Rattle.slot.specs.declared.Layout.{Layout}
 use Rattle.slot.specs.declared.Session.{Session}
-use Rattle.slot.specs.Session.{regionOk, sessionOk, State}
+use Rattle.slot.specs.Session.{regionOk, layoutOk, sessionOk, State}
 use Rattle.slot.specs.Act.{Act, keep, append, start, erase, end, done}
 
 -- an act that the upload rules may come to in a session: data is added only to an open session, at the offset that its request names, which
@@ -48,12 +49,18 @@ pub record Held (slot : Slot) (first : State) (acts : List Act) (st : State) : T
   pub joined : st .session .running ≡ true → take (st .session .place) (slotIn slot (st .memory)) ≡ written acts
   pub blank-after : st .session .running ≡ true → drop (st .session .place) (slotIn slot (st .memory)) ≡ replicate (slot .size - st .session .place) 255
 
--- the demand: in any history from a closed record and a memory that the slot lies in
+-- the demand with slot 0, which is "only read": its bytes are as at first, at every point
+pub record HeldIn (layout : Layout) (first : State) (acts : List Act) (st : State) : Type 0 where
+  pub held : Held (layout .slot1) first acts st
+  pub only-read : slotIn (layout .slot0) (st .memory) ≡ slotIn (layout .slot0) (first .memory)
+
+-- the demand: in any history from a closed record and a memory with two possible regions
 abbrev pub Demand : Type 0
 Demand =
-    (slot : Slot) (first : State) (acts : List Act) (st : State) → regionOk slot (length (first .memory)) ≡ true → first .session .running ≡ false
-    → History slot first acts st
-    → Held slot first acts st
+    (layout : Layout) (first : State) (acts : List Act) (st : State) → layoutOk layout (length (first .memory)) ≡ true
+    → first .session .running ≡ false
+    → History (layout .slot1) first acts st
+    → HeldIn layout first acts st
 
 -- each chunk that was written since the start is the image's part at the offset that its request names; at the start that is 0
 unfoldable pub CutFrom : List ℕ → List Act → Type 0

@@ -1,21 +1,44 @@
--- The slot's region and the session record: which are possible. "The slot is a region of it: start A, size S from 1 to 1,048,576, ending
+-- The two regions and the session record: which are possible. "The slot is a region of it: start A, size S from 1 to 1,048,576, ending
 -- inside the memory. .. The session record is closed, or open with length L (1 to S), place n (1 to L), and perhaps a 32-byte tag."
 -- Assumes nothing.
-use Prim.Native.Nat.{ℕ, _+_}
-use mathlib.Core.Bool.{Bool, true, false}
+use Prim.Native.Nat.{ℕ, _+_, _≤_, _<_, min, max}
+use mathlib.Core.Path.{_≡_}
+use mathlib.Core.Bool.{Bool, true, false, not}
 use mathlib.Core.List.{List}
-use lib.Dec.{leb}
+use lib.Dec.{leb, ltb}
 use lib.ListN.{length, replicate}
 use Rattle.laws.specs.Choice.{pick, both}
 use Rattle.refusal.specs.Number.{numberOf}
 use Rattle.slot.specs.declared.Slot.{Slot}
+use Rattle.slot.specs.declared.Layout.{Layout}
 use Rattle.slot.specs.declared.Session.{Session}
 use Rattle.slot.specs.declared.Configured.{Configured}
 use Rattle.slot.specs.declared.Configured.the-variants.{Ready, Refused}
 
--- a slot's region is possible in a memory of this many bytes
+-- a region lies in a memory of this many bytes
+abbrev pub liesIn : Slot → ℕ → Bool
+liesIn slot m = leb (slot .start + slot .size) m
+
+-- the upload slot's region is possible in a memory of this many bytes
 unfoldable pub regionOk : Slot → ℕ → Bool
-regionOk slot m = both (leb 1 (slot .size)) (both (leb (slot .size) 1048576) (leb (slot .start + slot .size) m))
+regionOk slot m = both (leb 1 (slot .size)) (both (leb (slot .size) 1048576) (liesIn slot m))
+
+-- two regions overlap: a byte is in both
+unfoldable pub overlapping : Slot → Slot → Bool
+overlapping a b = ltb (max (a .start) (b .start)) (min (a .start + a .size) (b .start + b .size))
+
+-- a byte of the memory is in a region
+abbrev pub In : Slot → ℕ → Type 0
+In slot i = (slot .start ≤ i) × (i < slot .start + slot .size)
+
+-- so it is: regions that overlap have a byte in both, and others have none
+abbrev pub OverlapIs : Type 0
+OverlapIs =
+    (a b : Slot) → (overlapping a b ≡ true → (i : ℕ) × (In a i × In b i)) × (overlapping a b ≡ false → (i : ℕ) → In a i → In b i → ⊥)
+
+-- "Slot 0 is a second region of the memory, only read; if it overlaps the upload slot, or doesn't lie in the memory, refusal 1."
+unfoldable pub layoutOk : Layout → ℕ → Bool
+layoutOk layout m = both (regionOk (layout .slot1) m) (both (liesIn (layout .slot0) m) (not (overlapping (layout .slot0) (layout .slot1))))
 
 -- a session record is possible for a slot
 unfoldable pub sessionOk : Slot → Session → Bool
@@ -34,9 +57,9 @@ pub record State : Type 0 where
 abbrev pub stateOf : List ℕ → List ℕ → Session → State
 stateOf m tag s = record { memory = m; session = s; tag = tag }
 
--- the slot's region and the session record are possible
-abbrev pub possible : Slot → State → Bool
-possible slot st = both (regionOk slot (length (st .memory))) (sessionOk slot (st .session))
+-- both regions and the session record are possible
+abbrev pub possible : Layout → State → Bool
+possible layout st = both (layoutOk layout (length (st .memory))) (sessionOk (layout .slot1) (st .session))
 
 -- the closed record, and a tag that is none
 abbrev pub closed : Session
@@ -49,17 +72,15 @@ noTag = replicate 32 0
 abbrev pub closedIn : List ℕ → State
 closedIn m = stateOf m noTag closed
 
--- what configuring says, in the paper's terms: the slot, or the refusal of this number
+-- what configuring says, in the paper's terms: the two regions, or the refusal of this number
 pub data Said : Type 0 where
-  ready : Slot → Said
+  ready : Layout → Said
   refused : ℕ → Said
 
 abbrev pub said : Configured → Said
-said (Ready slot) = ready slot
+said (Ready layout) = ready layout
 said (Refused r) = refused (numberOf r)
 
--- "Configuration fixes A and S, which then stay": refusal 1, or the slot
-unfoldable pub configured : ℕ → ℕ → ℕ → Said
-configured start size m =
-    let slot : Slot = record { start = start; size = size } in
-    pick (regionOk slot m) (ready slot) (refused 1)
+-- "Configuration fixes A and S, which then stay": refusal 1, or the two regions
+unfoldable pub configured : Layout → ℕ → Said
+configured layout m = pick (layoutOk layout m) (ready layout) (refused 1)

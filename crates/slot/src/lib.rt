@@ -6,21 +6,27 @@ use refusal::Refusal;
 ghost use mathlib.Core.Path.{_≡_};
 ghost use mathlib.Core.List.{List};
 ghost use mathlib.Core.Bool.{true, false, not};
-ghost use Prim.Native.Nat.{ℕ, _+_, _-_, _^_, _≤_, _<_};
+ghost use Prim.Native.Nat.{ℕ, _+_, _-_, _^_, _≤_, _<_, min, max};
 ghost use lib.Dec.{ltb, eqb};
 ghost use lib.ListN.{length};
 ghost use Rattle.laws.specs.Choice.{both};
 ghost use Rattle.laws.specs.Bytes.{same};
 ghost use Rattle.laws.specs.Parts.{isThere, Within};
-ghost use Rattle.slot.specs.Session.{regionOk, sessionOk, State, stateOf, closed, said, configured};
+ghost use Rattle.slot.specs.Session.{liesIn, regionOk, overlapping, layoutOk, sessionOk, State, stateOf, closed, said, configured};
 ghost use Rattle.slot.specs.Plan.{above, misSized, sameTag, planLater, planSized, planLength, planFirst, planOf};
 ghost use Rattle.slot.specs.Act.{Act, blank, grown, done, tagKept, actOf};
 ghost use Rattle.slot.specs.History.{Fit};
 
-// The slot: where it starts in the memory, and its size.
+// A slot: where it starts in the memory, and its size.
 pub struct Slot {
     pub start: usize,
     pub size: usize,
+}
+
+// The memory's two regions: slot 0, which is only read, and slot 1, the upload slot.
+pub struct Layout {
+    pub slot0: Slot,
+    pub slot1: Slot,
 }
 
 // The session record. Of a closed one nothing else counts; the calls give it as zeros.
@@ -36,7 +42,7 @@ pub struct Session {
 
 // What configuring gave.
 pub enum Configured {
-    Ready(Slot),
+    Ready(Layout),
     Refused(Refusal),
 }
 
@@ -74,10 +80,76 @@ fn region_possible(slot: Slot, room: usize) -> bool
     if 1048576 < size {
         return false;
     }
+    lies_in(slot, room)
+}
+
+// Whether a region lies in a memory of this many bytes. The sum of start and size could wrap, so none is made.
+fn lies_in(region: Slot, room: usize) -> bool
+    ensures { λ r. ⌜ r ≡ liesIn region room ⌝ }
+{
+    let size = region.size;
     if room < size {
         return false;
     }
-    slot.start <= room - size
+    region.start <= room - size
+}
+
+// The place after the slot's last byte.
+fn slot_end(slot: Slot) -> usize
+    requires { ⌜ slot .start + slot .size < 2 ^ 64 ⌝ }
+    ensures { λ r. ⌜ r ≡ slot .start + slot .size ⌝ }
+{
+    slot.start + slot.size
+}
+
+// The larger of two numbers.
+fn larger(a: usize, b: usize) -> usize
+    ensures { λ r. ⌜ r ≡ max a b ⌝ }
+{
+    if a < b {
+        return b;
+    }
+    a
+}
+
+// The smaller of two numbers.
+fn smaller(a: usize, b: usize) -> usize
+    ensures { λ r. ⌜ r ≡ min a b ⌝ }
+{
+    if a < b {
+        return a;
+    }
+    b
+}
+
+// Whether two regions have a byte in common.
+fn overlap(a: Slot, b: Slot) -> bool
+    requires { ⌜ (a .start + a .size < 2 ^ 64) × (b .start + b .size < 2 ^ 64) ⌝ }
+    ensures { λ r. ⌜ r ≡ overlapping a b ⌝ }
+{
+    let end_a = slot_end(a);
+    let end_b = slot_end(b);
+    let begin = larger(a.start, b.start);
+    let end = smaller(end_a, end_b);
+    begin < end
+}
+
+// Whether both regions are possible, in a memory of this many bytes.
+fn layout_possible(layout: Layout, room: usize) -> bool
+    ensures { λ r. ⌜ r ≡ layoutOk layout room ⌝ }
+{
+    let slot1 = layout.slot1;
+    let region = region_possible(slot1, room);
+    if !region {
+        return false;
+    }
+    let slot0 = layout.slot0;
+    let inside = lies_in(slot0, room);
+    if !inside {
+        return false;
+    }
+    let both = overlap(slot0, slot1);
+    !both
 }
 
 // Whether a session record is possible for a slot.
@@ -99,27 +171,27 @@ fn session_possible(slot: Slot, session: Session) -> bool
     session.place <= session.length
 }
 
-// Whether slot and session are possible, in a memory of this many bytes.
-pub fn possible(slot: Slot, session: Session, room: usize) -> bool
-    ensures { λ r. ⌜ r ≡ both (regionOk slot room) (sessionOk slot session) ⌝ }
+// Whether both regions and the session are possible, in a memory of this many bytes.
+pub fn possible(layout: Layout, session: Session, room: usize) -> bool
+    ensures { λ r. ⌜ r ≡ both (layoutOk layout room) (sessionOk (layout .slot1) session) ⌝ }
 {
-    let region = region_possible(slot, room);
-    if !region {
+    let regions = layout_possible(layout, room);
+    if !regions {
         return false;
     }
+    let slot = layout.slot1;
     session_possible(slot, session)
 }
 
-// The slot of this start and size, or refusal 1 where it does not end inside the memory.
-pub fn configure(start: usize, size: usize, room: usize) -> Configured
-    ensures { λ r. ⌜ said r ≡ configured start size room ⌝ }
+// The two regions, or refusal 1 where one does not lie in the memory as it has to, or they overlap.
+pub fn configure(layout: Layout, room: usize) -> Configured
+    ensures { λ r. ⌜ said r ≡ configured layout room ⌝ }
 {
-    let slot = Slot { start, size };
-    let region = region_possible(slot, room);
-    if !region {
+    let regions = layout_possible(layout, room);
+    if !regions {
         return Configured::Refused(Refusal::Impossible);
     }
-    Configured::Ready(slot)
+    Configured::Ready(layout)
 }
 
 // The closed session record.
@@ -326,14 +398,6 @@ pub fn plan_upload(
         return plan_later(session, upload);
     }
     plan_first(slot, session, tag, source, upload)
-}
-
-// The place after the slot's last byte.
-fn slot_end(slot: Slot) -> usize
-    requires { ⌜ slot .start + slot .size < 2 ^ 64 ⌝ }
-    ensures { λ r. ⌜ r ≡ slot .start + slot .size ⌝ }
-{
-    slot.start + slot.size
 }
 
 // Sets every byte of the slot to 255.

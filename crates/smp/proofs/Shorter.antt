@@ -150,6 +150,7 @@ RequestLate : Request → Type 0
 RequestLate (Request.Answer why) = Unit {0}
 RequestLate (Request.Echo start len) = 11 + headLen len ≤ start
 RequestLate Request.Reset = Unit {0}
+RequestLate Request.Images = Unit {0}
 RequestLate (Request.Upload u) = Unit {0}
 RequestLate Request.Erase = Unit {0}
 
@@ -181,7 +182,8 @@ erase-late (Number.Is n) = pick-case RequestLate (eqb n 1) _ _ (λ h. tt) (λ h.
 request-late : (k : Command) (s : List ℕ) → Bytes s → RequestLate (requestOf k s)
 unfolding RequestLate requestOf MapLate
 request-late Command.Echo s b = mapped-late _ (mapFrom Kind.Echo s 8) (λ f e. echo-late f (subst MapLate e (map-late s b)))
-request-late Command.Reset s b = mapped-late _ (mapFrom Kind.Reset s 8) (λ f e. tt)
+request-late Command.Reset s b = mapped-late _ (mapFrom Kind.Bare s 8) (λ f e. tt)
+request-late Command.Images s b = mapped-late _ (mapFrom Kind.Bare s 8) (λ f e. tt)
 request-late Command.Upload s b = mapped-late _ (mapFrom Kind.Upload s 8) (λ f e. upload-late f (numberIn f Key.Off) (runIn f Key.Data))
 request-late Command.Erase s b = mapped-late _ (mapFrom Kind.Erase s 8) (λ f e. erase-late (numberIn f Key.Slot))
 request-late Command.Unknown s b = tt

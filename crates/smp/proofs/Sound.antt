@@ -67,6 +67,7 @@ RequestInside : List ℕ → Request → Type 0
 RequestInside s (Request.Answer why) = Unit {0}
 RequestInside s (Request.Echo start len) = start + len ≤ length s
 RequestInside s Request.Reset = Unit {0}
+RequestInside s Request.Images = Unit {0}
 RequestInside s (Request.Upload u) = (u .start + u .size ≤ length s) × Within s (u .sha)
 RequestInside s Request.Erase = Unit {0}
 
@@ -101,7 +102,8 @@ request-of-inside : (k : Command) (s : List ℕ) → RequestInside s (requestOf 
 unfolding RequestInside requestOf indexOf
 request-of-inside Command.Echo s =
     mapped-inside s _ (mapFrom Kind.Echo s 8) (λ f e. echo-with s (runIn f Key.Text) (map-run Kind.Echo s 8 f e Key.Text (lit< tt)))
-request-of-inside Command.Reset s = mapped-inside s _ (mapFrom Kind.Reset s 8) (λ f e. tt)
+request-of-inside Command.Reset s = mapped-inside s _ (mapFrom Kind.Bare s 8) (λ f e. tt)
+request-of-inside Command.Images s = mapped-inside s _ (mapFrom Kind.Bare s 8) (λ f e. tt)
 request-of-inside Command.Upload s =
     mapped-inside s _ (mapFrom Kind.Upload s 8)
     (λ f e. upload-with s f (numberIn f Key.Off) (runIn f Key.Data) (map-run Kind.Upload s 8 f e Key.Data (lit< tt))

@@ -91,43 +91,34 @@ header-put h d e₁ e₂ e₃ e₄ room a b c e =
     put-then (omega arith) (put-then (omega arith) (put-then (omega arith) p q) r) s .written
 
 -- a map at place 8 and then the header with its length in front of it are the packet
-pub packet-put : (h hd : Header) (m : List ℕ) {d e₁ e₂ : List ℕ} (end : ℕ) → 8 + length m ≤ length d
+pub packet-put : (h : Header) (m : List ℕ) {d e₁ e₂ : List ℕ} (end : ℕ) → 8 + length m ≤ length d
     → Put end e₁ d 8 m
-    → hd ≡ replyHeader h (end - 8)
-    → e₂ ≡ pasted e₁ 0 (headerBytes hd)
+    → e₂ ≡ pasted e₁ 0 (headerBytes (replyHeader h (end - 8)))
     → Put end e₂ d 0 (replyPacket h m)
 unfolding replyPacket
-packet-put h hd m {d} {e₁} {e₂} end room p is w =
+packet-put h m {d} {e₁} {e₂} end room p w =
     let e : end - 8 ≡ length m = omega (arith, p .place) in
-    let hd-is : hd ≡ replyHeader h (length m) = is ∙ ap (λ (n : ℕ). replyHeader h n) e in
     let size : length (headerBytes (replyHeader h (length m))) ≡ 8 = header-length (replyHeader h (length m)) in
     record {
       place = rw length-append (omega (arith, p .place));
       written =
           w
-          ∙ ap₂ (λ (l : List ℕ) (x : Header). pasted l 0 (headerBytes x)) (p .written) hd-is
+          ∙ ap₂ (λ (l : List ℕ) (n : ℕ). pasted l 0 (headerBytes (replyHeader h n))) (p .written) e
           ∙ pasted-front d 8 (headerBytes (replyHeader h (length m))) m size room;
     }
 
 -- a reply that fits is written whole
-pub written-whole : (h : Header) (s : List ℕ) (r : Reply) (d : List ℕ) (n : ℕ) (e : List ℕ) → ltb (length d) (8 + length (replyMap s r)) ≡ false
-    → Put n e d 0 (replyPacket h (replyMap s r)) → Written h s r d n e
+pub written-whole : (h : Header) (m d : List ℕ) (n : ℕ) (e : List ℕ) → ltb (length d) (8 + length m) ≡ false → Put n e d 0 (replyPacket h m) → Written h m d n e
 unfolding replyBytes
-written-whole h s r d n e fits p =
-    record {
-      count = simp (fits, pick-no) (p .place ∙ zero-add (length (replyPacket h (replyMap s r))));
-      bytes = simp (fits, pick-no) (p .written);
-    }
+written-whole h m d n e fits p =
+    record { count = simp (fits, pick-no) (p .place ∙ zero-add (length (replyPacket h m))); bytes = simp (fits, pick-no) (p .written) }
 
 -- a reply that does not fit is rc 7 instead
-pub written-seven : (h : Header) (s : List ℕ) (r : Reply) (d : List ℕ) (n : ℕ) (e : List ℕ) → ltb (length d) (8 + length (replyMap s r)) ≡ true
-    → Put n e d 0 (replyPacket h (replyMap s (Reply.Refused Reason.ReplyTooLong))) → Written h s r d n e
+pub written-seven : (h : Header) (m d : List ℕ) (n : ℕ) (e : List ℕ) → ltb (length d) (8 + length m) ≡ true → Put n e d 0 (replyPacket h (rcMap 7))
+    → Written h m d n e
 unfolding replyBytes
-written-seven h s r d n e long p =
-    record {
-      count = simp (long, pick-yes) (p .place ∙ zero-add (length (replyPacket h (replyMap s (Reply.Refused Reason.ReplyTooLong)))));
-      bytes = simp (long, pick-yes) (p .written);
-    }
+written-seven h m d n e long p =
+    record { count = simp (long, pick-yes) (p .place ∙ zero-add (length (replyPacket h (rcMap 7)))); bytes = simp (long, pick-yes) (p .written) }
 
 -- the shortest head of an argument below 24 is one byte
 pub head-tiny : (m n : ℕ) → n < 24 → length (headOf m n) ≡ 1

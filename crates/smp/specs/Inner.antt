@@ -6,10 +6,9 @@ use mathlib.Core.List.{List}
 use lib.ListN.{length}
 use Rattle.laws.specs.Bytes.{pasted}
 use Rattle.smp.specs.declared.Header.{Header}
-use Rattle.smp.specs.declared.Reply.{Reply}
 use Rattle.smp.specs.Reply.{replyBytes}
 
--- a reply that was written: its length n, and the buffer, d before and e after
-pub record Written (h : Header) (s : List ℕ) (r : Reply) (d : List ℕ) (n : ℕ) (e : List ℕ) : Type 0 where
-  pub count : n ≡ length (replyBytes h s r (length d))
-  pub bytes : e ≡ pasted d 0 (replyBytes h s r (length d))
+-- a reply with the map m that was written: its length n, and the buffer, d before and e after
+pub record Written (h : Header) (m d : List ℕ) (n : ℕ) (e : List ℕ) : Type 0 where
+  pub count : n ≡ length (replyBytes h m (length d))
+  pub bytes : e ≡ pasted d 0 (replyBytes h m (length d))

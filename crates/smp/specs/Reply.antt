@@ -39,12 +39,10 @@ replyHeader h n = record { op = h .op + 1; flags = 0; length = n; group = h .gro
 unfoldable pub replyPacket : Header → List ℕ → List ℕ
 replyPacket h m = headerBytes (replyHeader h (length m)) ++ m
 
--- the reply that goes into a buffer of this many bytes: "An echo reply longer than its buffer becomes rc 7."
-unfoldable pub replyBytes : Header → List ℕ → Reply → ℕ → List ℕ
-replyBytes h s r room =
-    pick (ltb room (8 + length (replyMap s r)))
-    (replyPacket h (replyMap s (Reply.Refused Reason.ReplyTooLong)))
-    (replyPacket h (replyMap s r))
+-- the reply that goes into a buffer of this many bytes, where its map is m: "An echo reply longer than its buffer becomes rc 7", "a list that
+-- doesn't fit rc 7"
+unfoldable pub replyBytes : Header → List ℕ → ℕ → List ℕ
+replyBytes h m room = pick (ltb room (8 + length m)) (replyPacket h (rcMap (rcOf Reason.ReplyTooLong))) (replyPacket h m)
 
 -- a reply can be said of a request s: an offset is below 2^32, and a text lies inside s, which is no longer than a packet may be
 abbrev pub Sayable : List ℕ → Reply → Type 0

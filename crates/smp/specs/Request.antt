@@ -19,6 +19,10 @@ use Rattle.smp.specs.declared.Request.{Request}
 use Rattle.smp.specs.declared.Reading.{Reading}
 use Rattle.smp.specs.Packet.{headerIn, sized}
 
+-- the image group, op not 2: "the state read (op 0, group 1, command 0)"
+unfoldable pub imageRead : Header → Command
+imageRead h = pick (both (eqb (h .command) 0) (eqb (h .op) 0)) Command.Images Command.Unknown
+
 -- "echo (op 0 or 2, group 0, command 0) .. Reset (op 2, group 0, command 5) .. Upload (op 2, group 1, command 1) .. Erase (op 2, group 1,
 -- command 5)"
 unfoldable pub commandOf : Header → Command
@@ -27,10 +31,12 @@ commandOf h =
     (pick (eqb (h .command) 0) Command.Echo
     (pick (both (eqb (h .command) 5) (eqb (h .op) 2)) Command.Reset
     Command.Unknown))
-    (pick (both (eqb (h .group) 1) (eqb (h .op) 2))
+    (pick (eqb (h .group) 1)
+    (pick (eqb (h .op) 2)
     (pick (eqb (h .command) 1) Command.Upload
     (pick (eqb (h .command) 5) Command.Erase
     Command.Unknown))
+    (imageRead h))
     Command.Unknown)
 
 -- "a malformed map gets rc 3": what the fields of a map ask for, where there is one
@@ -67,10 +73,11 @@ uploadWith f (Number.Is off) (Run.At start len) =
 abbrev pub uploadOf : List ℕ → Request
 uploadOf f = uploadWith f (numberIn f Key.Off) (runIn f Key.Data)
 
--- what a request of this command asks for: reset takes any map; "Any other op, group and command together: rc 8"
+-- what a request of this command asks for: reset and the state read take any map; "Any other op, group and command together: rc 8"
 unfoldable pub requestOf : Command → List ℕ → Request
 requestOf Command.Echo s = mapped (λ f. echoWith (runIn f Key.Text)) (mapFrom Kind.Echo s 8)
-requestOf Command.Reset s = mapped (λ f. Request.Reset) (mapFrom Kind.Reset s 8)
+requestOf Command.Reset s = mapped (λ f. Request.Reset) (mapFrom Kind.Bare s 8)
+requestOf Command.Images s = mapped (λ f. Request.Images) (mapFrom Kind.Bare s 8)
 requestOf Command.Upload s = mapped uploadOf (mapFrom Kind.Upload s 8)
 requestOf Command.Erase s = mapped (λ f. eraseWith (numberIn f Key.Slot)) (mapFrom Kind.Erase s 8)
 requestOf Command.Unknown s = Request.Answer Reason.UnknownCommand

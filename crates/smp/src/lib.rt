@@ -8,14 +8,14 @@ use slot::Upload;
 ghost use mathlib.Core.Path.{_≡_};
 ghost use mathlib.Core.Bool.{not};
 ghost use mathlib.Core.List.{[], _∷_, _++_};
-ghost use Prim.Native.Nat.{_+_, _≤_, _<_};
+ghost use Prim.Native.Nat.{_+_, _-_, _≤_, _<_};
 ghost use lib.Dec.{ltb};
 ghost use lib.ListN.{length, drop};
 ghost use Rattle.laws.specs.Bytes.{pasted, ofBe16};
 ghost use Rattle.cbor.specs.Inner.{Put};
 ghost use Rattle.cbor.specs.Write.{unsigned, textOf};
 ghost use Rattle.smp.specs.Packet.{headerIn, sized, headerBytes};
-ghost use Rattle.smp.specs.Request.{commandOf, uploadOf, requestOf, isRequest, readRequest};
+ghost use Rattle.smp.specs.Request.{imageRead, commandOf, uploadOf, requestOf, isRequest, readRequest};
 ghost use Rattle.smp.specs.Reply.{rcMap, replyMap, replyHeader, replyPacket, Sayable};
 ghost use Rattle.smp.specs.Inner.{Written};
 
@@ -33,6 +33,7 @@ pub struct Header {
 pub enum Command {
     Echo,
     Reset,
+    Images,
     Upload,
     Erase,
     Unknown,
@@ -44,6 +45,8 @@ pub enum Request {
     Answer(Reason),
     Echo { start: usize, len: usize },
     Reset,
+    // The list of the images in both slots.
+    Images,
     Upload(Upload),
     Erase,
 }
@@ -111,6 +114,19 @@ pub fn is_sized(s: &[u8]) -> bool
     n <= 65533
 }
 
+// What a header of the image group asks for, whose op is not 2.
+fn image_read(h: Header) -> Command
+    ensures { λ r. ⌜ r ≡ imageRead h ⌝ }
+{
+    if h.command != 0 {
+        return Command::Unknown;
+    }
+    if h.op != 0 {
+        return Command::Unknown;
+    }
+    Command::Images
+}
+
 // What a header's op, group and command ask for together.
 fn command_of(h: Header) -> Command
     ensures { λ r. ⌜ r ≡ commandOf h ⌝ }
@@ -131,7 +147,7 @@ fn command_of(h: Header) -> Command
         return Command::Unknown;
     }
     if h.op != 2 {
-        return Command::Unknown;
+        return image_read(h);
     }
     if h.command == 1 {
         return Command::Upload;
@@ -163,11 +179,23 @@ fn reset_in(s: &[u8]) -> Request
     ensures { λ r. ⌜ r ≡ requestOf Command.Reset (now (s .entry)) ⌝ }
 {
     let mut f = [0u64; 30];
-    let whole = map::map_from(Kind::Reset, s, 8, &mut f);
+    let whole = map::map_from(Kind::Bare, s, 8, &mut f);
     if !whole {
         return Request::Answer(Reason::MalformedMap);
     }
     Request::Reset
+}
+
+// The request for the images in a packet.
+fn images_in(s: &[u8]) -> Request
+    ensures { λ r. ⌜ r ≡ requestOf Command.Images (now (s .entry)) ⌝ }
+{
+    let mut f = [0u64; 30];
+    let whole = map::map_from(Kind::Bare, s, 8, &mut f);
+    if !whole {
+        return Request::Answer(Reason::MalformedMap);
+    }
+    Request::Images
 }
 
 // The erase request in a packet.
@@ -235,6 +263,7 @@ fn request_of(command: Command, s: &[u8]) -> Request
     match command {
         Command::Echo => echo_in(s),
         Command::Reset => reset_in(s),
+        Command::Images => images_in(s),
         Command::Upload => upload_in(s),
         Command::Erase => erase_in(s),
         Command::Unknown => Request::Answer(Reason::UnknownCommand),
@@ -368,6 +397,16 @@ fn reply_header(h: Header, n: usize) -> Header
     }
 }
 
+// Writes the header of a reply whose map stands from place 8 of buf to this end.
+pub fn put_reply_header(h: Header, buf: &mut [u8], end: usize)
+    requires { ⌜ h .op < 255 ⌝ }
+    requires { ⌜ (8 ≤ end) × (8 ≤ length (now buf)) ⌝ }
+    ensures { λ _. ⌜ now (buf .exit) ≡ pasted (now (buf .entry)) 0 (headerBytes (replyHeader h (end - 8))) ⌝ }
+{
+    let header = reply_header(h, end - 8);
+    put_header(buf, header);
+}
+
 // Writes a reply that fits to the start of buf, the map first and then the header with its length; gives how long it is.
 fn put_reply(h: Header, s: &[u8], reply: Reply, buf: &mut [u8]) -> usize
     requires { ⌜ h .op < 255 ⌝ }
@@ -376,8 +415,18 @@ fn put_reply(h: Header, s: &[u8], reply: Reply, buf: &mut [u8]) -> usize
     ensures { λ r. ⌜ Put r (now (buf .exit)) (now (buf .entry)) 0 (replyPacket h (replyMap (now (s .entry)) reply)) ⌝ }
 {
     let end = put_map(buf, s, reply);
-    let header = reply_header(h, end - 8);
-    put_header(buf, header);
+    put_reply_header(h, buf, end);
+    end
+}
+
+// Writes rc 7 to the start of buf, for a reply that does not fit; gives how long it is.
+pub fn put_too_long(h: Header, buf: &mut [u8]) -> usize
+    requires { ⌜ 32 ≤ length (now buf) ⌝ }
+    requires { ⌜ h .op < 255 ⌝ }
+    ensures { λ r. ⌜ Put r (now (buf .exit)) (now (buf .entry)) 0 (replyPacket h (rcMap 7)) ⌝ }
+{
+    let end = put_rc(buf, 7);
+    put_reply_header(h, buf, end);
     end
 }
 
@@ -400,11 +449,11 @@ pub fn write_reply(h: Header, s: &[u8], reply: Reply, buf: &mut [u8]) -> usize
     requires { ⌜ 32 ≤ length (now buf) ⌝ }
     requires { ⌜ h .op < 255 ⌝ }
     requires { ⌜ Sayable (now s) reply ⌝ }
-    ensures { λ r. ⌜ Written h (now (s .entry)) reply (now (buf .entry)) r (now (buf .exit)) ⌝ }
+    ensures { λ r. ⌜ Written h (replyMap (now (s .entry)) reply) (now (buf .entry)) r (now (buf .exit)) ⌝ }
 {
     let fits = fits_in(s, reply, buf.len());
     if !fits {
-        return put_reply(h, s, Reply::Refused(Reason::ReplyTooLong), buf);
+        return put_too_long(h, buf);
     }
     put_reply(h, s, reply, buf)
 }

@@ -17,13 +17,13 @@ use Rattle.sender.specs.Sender.{frameCount, rawOf, startOf, stopOf, pieceOf, fr
 use Rattle.cbor.specs.Write.{beBytes, headOf}
 use Rattle.map.specs.Fields.{indexOf, runIn}
 use Rattle.map.specs.Walk.{mapFrom}
-use Rattle.slot.specs.Session.{regionOk, sessionOk}
+use Rattle.slot.specs.Session.{regionOk, overlapping, layoutOk, sessionOk}
 use Rattle.slot.specs.Plan.{above, misSized, sameTag, planLater, planSized, planLength, planFirst, planOf}
 use Rattle.slot.specs.Act.{done}
 use Rattle.smp.specs.Packet.{sized, headerBytes}
 use Rattle.smp.specs.Request.{commandOf, mapped, echoWith, requestOf, isRequest, readRequest}
 use Rattle.smp.specs.Reply.{replyMap, replyPacket, replyBytes}
-use Rattle.controller.specs.Doing.{actFor, replyFor, asksReset}
+use Rattle.controller.specs.Doing.{actFor, responseFor, responseMap, asksReset}
 use Rattle.controller.specs.Handle.{asked, taking, actBy, bytesBy, saidBy, handled}
 use Rattle.host.specs.Write.{laterMap}
 use Rattle.starred.specs.Table.{Row, planned, starred, allRight}
@@ -32,9 +32,9 @@ use Rattle.starred.specs.Table.{Row, planned, starred, allRight}
 computed : allRight starred ≡ true
 unfolding allRight starred same both pick be16 ofBe16 pasted shifted bits byte onward char encode frame
     frameCount rawOf startOf stopOf pieceOf frameOf planned planOf above planLater planSized planLength planFirst
-    misSized sameTag regionOk sessionOk sized headerBytes isRequest readRequest commandOf requestOf mapped echoWith
+    misSized sameTag regionOk overlapping layoutOk sessionOk sized headerBytes isRequest readRequest commandOf requestOf mapped echoWith
     indexOf runIn mapFrom replyMap replyPacket replyBytes beBytes headOf asked taking actBy bytesBy saidBy handled
-    replyFor actFor asksReset done laterMap
+    responseFor responseMap actFor asksReset done laterMap
 computed = refl
 
 -- what the test says of each row

@@ -11,6 +11,7 @@ use Rattle.laws.specs.Bytes.{same}
 use Rattle.reason.specs.Rc.{rcOf}
 use Rattle.sender.specs.Sender.{frameCount, frameOf}
 use Rattle.slot.specs.declared.Slot.{Slot}
+use Rattle.slot.specs.declared.Layout.{Layout}
 use Rattle.slot.specs.declared.Upload.{Upload}
 use Rattle.slot.specs.declared.Plan.{Plan}
 use Rattle.slot.specs.Session.{State, stateOf, noTag, closedIn}
@@ -67,9 +68,13 @@ planned st u = numbers (planOf slot4096 st [] u)
     numbers Plan.Append = 2 ∷ []
     numbers (Plan.Start l) = 3 ∷ l ∷ []
 
+-- an empty slot 0 and an upload slot of one byte
+abbrev pub oneByte : Layout
+oneByte = record { slot0 = record { start = 0; size = 0 }; slot1 = record { start = 0; size = 1 } }
+
 -- "Its reply: 01 00 00 05 00 00 00 00 A1 62 72 63 03 ("d" is missing)."
 abbrev pub zerosReply : List ℕ
-zerosReply = take 13 (handle (record { start = 0; size = 1 }) (closedIn (zeros 1)) (zeros 8) (zeros 32) .reply)
+zerosReply = take 13 (handle oneByte (closedIn (zeros 1)) (zeros 8) (zeros 32) .reply)
 
 -- all starred cases
 unfoldable pub starred : List Row

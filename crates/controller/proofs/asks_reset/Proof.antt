@@ -21,6 +21,9 @@ enum-told-4 c = search needs
 enum-told-5 : tie.Need-enum-told-5
 enum-told-5 c = search needs
 
+enum-told-6 : tie.Need-enum-told-6
+enum-told-6 c = search needs
+
 returns : tie.Need-returns
 unfolding asksReset
 returns c = sym (ap asksReset (c .enum-told .given .1))
@@ -41,6 +44,10 @@ returns-5 : tie.Need-returns-5
 unfolding asksReset
 returns-5 c = sym (ap asksReset (c .enum-told5 .given .1))
 
+returns-6 : tie.Need-returns-6
+unfolding asksReset
+returns-6 c = sym (ap asksReset (c .enum-told6 .given .1))
+
 pub asks-reset-spec : {M : Type 1} → statement M
 asks-reset-spec =
     tie.close
@@ -50,8 +57,10 @@ asks-reset-spec =
     enum-told-3
     enum-told-4
     enum-told-5
+    enum-told-6
     returns
     returns-2
     returns-3
     returns-4
-    returns-5)
+    returns-5
+    returns-6)

@@ -1,29 +1,23 @@
 -- `controller::do_upload` meets its contract: what the slot plans and carries out is the request's act, and the reply is the plan's.
 -- Assumes nothing.
 use mathlib.Core.Path.{_≡_, ap, _∙_}
-use lib.ListN.{length}
-use Rattle.laws.proofs.Choice.{both-true}
 use Rattle.slot.specs.declared.Plan.{Plan}
-use Rattle.slot.specs.Session.{regionOk, sessionOk, stateOf}
+use Rattle.slot.specs.Session.{stateOf}
 use Rattle.slot.specs.Plan.{planOf}
 use Rattle.slot.specs.Act.{done, actOf}
-use Rattle.controller.specs.Doing.{actFor, replyFor, replyTo}
+use Rattle.controller.specs.declared.Response.{Response}
+use Rattle.controller.specs.Doing.{actFor, responseFor, replyTo}
 use borrow.Author.Needs.{needs}
 use Rattle.controller.proofs.do_upload.Statement.{statement}
 use Rattle.controller.proofs.do_upload.Tie as tie
 
 plan-upload-requires : tie.Need-plan-upload-requires
-plan-upload-requires c κs =
-    let a = c .before .before .before .args in
-    let oks = both-true (regionOk (a .slot) (length (a .memory .now))) (sessionOk (a .slot) (a .session)) (c .before .before .before .pre .0) in
-    (oks .1, c .before .before .before .pre .1 .1)
+plan-upload-requires c κs = (c .before .before .before .pre .0 .1, c .before .before .before .pre .1 .1)
 
 carry-out-requires : tie.Need-carry-out-requires
 carry-out-requires c κs =
     let a = c .before .before .before .before .before .before .args in
-    let oks =
-    both-true (regionOk (a .slot) (length (a .memory .now))) (sessionOk (a .slot) (a .session))
-    (c .before .before .before .before .before .before .pre .0) in (
+    let oks = c .before .before .before .before .before .before .pre .0 in (
       oks .0,
       (
         oks .1,
@@ -41,7 +35,7 @@ same-length : tie.Need-same-length
 same-length c = search needs
 
 returns : tie.Need-returns
-unfolding actFor replyFor
+unfolding actFor responseFor
 returns c =
     let a = c .before .before .before .before .before .before .before .before .before .before .args in
     let p = a .packet .now in
@@ -52,7 +46,7 @@ returns c =
     ≡ planOf (a .slot) st p (a .upload) = c .before .before .before .before .before .before .plan-upload .ensures (a .memory .now) in
     record {
       state = done-by .ensures ∙ ap (λ (q : Plan). done (a .slot) (actOf p (a .upload) q) st) planned;
-      reply = c .reply-to .ensures (after .memory) (after .tag) ∙ ap (λ (q : Plan). replyTo q after) planned;
+      response = ap Response.Reply (c .reply-to .ensures (after .memory) (after .tag) ∙ ap (λ (q : Plan). replyTo q after) planned);
     }
 
 pub do-upload-spec : {M : Type 1} → statement M

@@ -16,15 +16,15 @@ possible-requires c κs = search needs
 returns : tie.Need-returns
 returns c =
     let a = c .before .before .before .before .before .args in
-    sym (handle-refused (a .slot) (stateOf (a .memory .now) (a .tag .now) (a .session)) (a .packet .now) (a .reply .now) 1
-    (taking-impossible (a .slot) (stateOf (a .memory .now) (a .tag .now) (a .session)) (a .packet .now) (a .reply .now)
+    sym (handle-refused (a .layout) (stateOf (a .memory .now) (a .tag .now) (a .session)) (a .packet .now) (a .reply .now) 1
+    (taking-impossible (a .layout) (stateOf (a .memory .now) (a .tag .now) (a .session)) (a .packet .now) (a .reply .now)
     (sym (c .before .possible .ensures) ∙ not-true _ (c .if1 .taken))))
 
 returns-2 : tie.Need-returns-2
 returns-2 c =
     let a = c .before .before .before .before .before .before .args in
-    sym (handle-refused (a .slot) (stateOf (a .memory .now) (a .tag .now) (a .session)) (a .packet .now) (a .reply .now) 11
-    (taking-short (a .slot) (stateOf (a .memory .now) (a .tag .now) (a .session)) (a .packet .now) (a .reply .now)
+    sym (handle-refused (a .layout) (stateOf (a .memory .now) (a .tag .now) (a .session)) (a .packet .now) (a .reply .now) 11
+    (taking-short (a .layout) (stateOf (a .memory .now) (a .tag .now) (a .session)) (a .packet .now) (a .reply .now)
     (sym (c .before .before .possible .ensures) ∙ not-false _ (c .before .if1 .left)) (omega arith)))
 
 read-request-requires : tie.Need-read-request-requires
@@ -40,8 +40,8 @@ returns-3 : tie.Need-returns-3
 returns-3 c =
     let a = c .before .before .before .before .before .before .before .before .before .args in
     sym
-    (handle-refused (a .slot) (stateOf (a .memory .now) (a .tag .now) (a .session)) (a .packet .now) (a .reply .now) 10
-    (taking-other (a .slot) (stateOf (a .memory .now) (a .tag .now) (a .session)) (a .packet .now) (a .reply .now)
+    (handle-refused (a .layout) (stateOf (a .memory .now) (a .tag .now) (a .session)) (a .packet .now) (a .reply .now) 10
+    (taking-other (a .layout) (stateOf (a .memory .now) (a .tag .now) (a .session)) (a .packet .now) (a .reply .now)
     (sym (c .before .before .before .before .before .possible .ensures) ∙ not-false _ (c .before .before .before .before .if1 .left)) (omega arith)
     (sym (c .before .before .read-request .ensures) ∙ c .enum-told .given .1)))
 
@@ -63,8 +63,8 @@ returns-4 c =
     let a =
     c .before .before .before .before .before .before .before .before .before .before .before .before .before .before .before .before .before .before .args in
     c .before .before .before .before .respond .ensures
-    ∙ ap (handled (a .slot) (stateOf (a .memory .now) (a .tag .now) (a .session)) (a .packet .now) (a .reply .now))
-    (sym (taking-request (a .slot) (stateOf (a .memory .now) (a .tag .now) (a .session)) (a .packet .now) (a .reply .now) _
+    ∙ ap (handled (a .layout) (stateOf (a .memory .now) (a .tag .now) (a .session)) (a .packet .now) (a .reply .now))
+    (sym (taking-request (a .layout) (stateOf (a .memory .now) (a .tag .now) (a .session)) (a .packet .now) (a .reply .now) _
     (sym (c .before .before .before .before .before .before .before .before .before .before .before .before .before .before .possible .ensures)
     ∙ not-false _ (c .before .before .before .before .before .before .before .before .before .before .before .before .before .if1 .left))
     (omega arith) (sym (c .before .before .before .before .before .before .before .before .before .before .before .read-request .ensures)

@@ -15,14 +15,14 @@ use Rattle.controller.proofs.handle_run.Statement.{statement}
 use Rattle.controller.proofs.handle_run.Tie as tie
 
 abbrev Inv-loop : tie.InvT-loop
-Inv-loop slot tag₀ memory₀ run reply₀ session₀ at₀ tag memory reply session at =
+Inv-loop layout tag₀ memory₀ run reply₀ session₀ at₀ tag memory reply session at =
     (at ≤ length run)
-    × (Come slot memory₀ run reply₀ memory tag session reply at)
+    × (Come layout memory₀ run reply₀ memory tag session reply at)
     × (length memory ≡ length memory₀)
     × (length reply ≡ length reply₀)
 
 abbrev μ-loop : tie.MeasureT-loop
-μ-loop slot tag₀ memory₀ run reply₀ session₀ at₀ tag memory reply session at = length run - at
+μ-loop layout tag₀ memory₀ run reply₀ session₀ at₀ tag memory reply session at = length run - at
 
 closed-session-requires : tie.Need-closed-session-requires Inv-loop μ-loop
 closed-session-requires c κs = search needs
@@ -31,7 +31,7 @@ loop-holds : tie.Need-loop-holds Inv-loop μ-loop
 loop-holds c =
     let a = c .before .before .before .before .before .args in (
       omega arith,
-      come-none (a .slot) (a .memory .now) (a .run .now) (a .reply .now) noTag (c .before .closed-session .result)
+      come-none (a .layout) (a .memory .now) (a .run .now) (a .reply .now) noTag (c .before .closed-session .result)
           (ap (λ (s : Session). stateOf (a .memory .now) noTag s) (c .before .closed-session .ensures)),
       refl,
       refl,
@@ -78,8 +78,8 @@ returns c =
     let l = c .before .before .before .before .before .before .loop in
     let a = c .before .before .before .before .before .before .before .before .before .before .before .before .args in
     let k = l .inv .1 in
-    come-end (a .slot) (a .memory .now) (a .run .now) (a .reply .now) (l .memory) (l .tag) (l .session) (l .reply) (l .at) k
-    (run-cut (a .slot) (closedIn (a .memory .now)) (a .run .now) (a .reply .now) (k .left) (l .at) (k .calls)
+    come-end (a .layout) (a .memory .now) (a .run .now) (a .reply .now) (l .memory) (l .tag) (l .session) (l .reply) (l .at) k
+    (run-cut (a .layout) (closedIn (a .memory .now)) (a .run .now) (a .reply .now) (k .left) (l .at) (k .calls)
     (omega (arith, c .before .before .before .before .before .loop-test .taken))
     (omega (arith, c .if1 .taken, c .before .before .before .wide .ensures .0, c .before .wide2 .ensures .0)))
 
@@ -122,11 +122,11 @@ loop-again c =
             .taken,
         c .before .before .before .before .before .before .before .before .if1 .left,
       ),
-      subst (λ (n : ℕ). Come (a .slot) (a .memory .now) run (a .reply .now) memory tag (h .result) reply (l .at + 2 + n)) (sym size)
-          (come-more (a .slot) (a .memory .now) run (a .reply .now) (l .memory) (l .tag) (l .session) (l .reply) (l .at) memory tag (h .result) reply
+      subst (λ (n : ℕ). Come (a .layout) (a .memory .now) run (a .reply .now) memory tag (h .result) reply (l .at + 2 + n)) (sym size)
+          (come-more (a .layout) (a .memory .now) run (a .reply .now) (l .memory) (l .tag) (l .session) (l .reply) (l .at) memory tag (h .result) reply
           (l .inv .1) two whole
-          (h .ensures .0 ∙ ap (λ (p : List ℕ). handle (a .slot) st p (l .reply) .state) part)
-          (h .ensures .1 ∙ ap (λ (p : List ℕ). handle (a .slot) st p (l .reply) .reply) part)),
+          (h .ensures .0 ∙ ap (λ (p : List ℕ). handle (a .layout) st p (l .reply) .state) part)
+          (h .ensures .1 ∙ ap (λ (p : List ℕ). handle (a .layout) st p (l .reply) .reply) part)),
       h .kept .1 .1 .1 .0 ∙ l .inv .2,
       h .kept .1 .1 .1 .1 .1 .1 .1 .0 ∙ l .inv .3,
     )
@@ -142,8 +142,8 @@ returns-2 c =
     let l = c .before .loop in
     let a = c .before .before .before .before .before .before .before .args in
     let k = l .inv .1 in
-    come-end (a .slot) (a .memory .now) (a .run .now) (a .reply .now) (l .memory) (l .tag) (l .session) (l .reply) (l .at) k
-    (run-end (a .slot) (closedIn (a .memory .now)) (a .run .now) (a .reply .now) (k .left) (l .at) (k .calls) (omega (arith, c .loop-test .left)))
+    come-end (a .layout) (a .memory .now) (a .run .now) (a .reply .now) (l .memory) (l .tag) (l .session) (l .reply) (l .at) k
+    (run-end (a .layout) (closedIn (a .memory .now)) (a .run .now) (a .reply .now) (k .left) (l .at) (k .calls) (omega (arith, c .loop-test .left)))
 
 pub handle-run-spec : {M : Type 1} → statement M
 handle-run-spec =

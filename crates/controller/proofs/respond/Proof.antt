@@ -1,48 +1,50 @@
--- `controller::respond` meets its contract: the request is carried out, and its reply written.
+-- `controller::respond` meets its contract: the request is carried out, and its response written.
 -- Assumes nothing.
 use mathlib.Core.Path.{_≡_, sym, ap, subst, _∙_}
-use Prim.Native.Nat.{_<_}
+use mathlib.Core.Bool.{true}
+use Prim.Native.Nat.{ℕ, _<_}
 use native.Mathlib.Omega.{arith}
-use Rattle.slot.specs.Session.{State, stateOf}
+use lib.ListN.{length}
+use Rattle.laws.proofs.Choice.{both-true}
+use Rattle.slot.specs.Session.{layoutOk, sessionOk, State, stateOf}
 use Rattle.slot.specs.Act.{done}
-use Rattle.smp.specs.declared.Header.{Header}
-use Rattle.smp.specs.declared.Reply.{Reply}
-use Rattle.smp.specs.Reply.{Sayable}
+use Rattle.slot.proofs.Laws.{layout-bounds}
+use Rattle.smp.specs.Packet.{headerIn}
 use Rattle.smp.proofs.Sound.{request-sized}
-use Rattle.controller.specs.Doing.{actFor, replyFor}
-use Rattle.controller.proofs.Laws.{carried-reset, carried-plain, reply-sayable}
+use Rattle.controller.specs.declared.Response.{Response}
+use Rattle.controller.specs.Doing.{actFor, responseFor}
+use Rattle.controller.specs.Inner.{Answerable}
+use Rattle.controller.proofs.Laws.{carried-reset, carried-plain, response-answerable}
 use borrow.Author.Needs.{needs}
 use Rattle.controller.proofs.respond.Statement.{statement}
 use Rattle.controller.proofs.respond.Tie as tie
 
 carry-requires : tie.Need-carry-requires
-carry-requires c κs = search needs
+carry-requires c κs =
+    let a = c .before .before .before .before .before .before .args in
+    let pre = c .before .before .before .before .before .before .pre in
+    let oks = both-true (layoutOk (a .layout) (length (a .memory .now))) (sessionOk (a .layout .slot1) (a .session)) (pre .0) in
+    ((layout-bounds (a .layout) (length (a .memory .now)) (oks .0) .upload, oks .1), pre .1 .1)
 
-header-in-requires : tie.Need-header-in-requires
-header-in-requires c κs = search needs
-
-write-reply-requires : tie.Need-write-reply-requires
-write-reply-requires c κs =
-    let a = c .before .before .before .before .before .before .before .before .before .before .before .args in
-    let st = stateOf (a .memory .now) (a .tag .now) (a .session) in
+write-response-requires : tie.Need-write-response-requires
+write-response-requires c κs =
+    let a = c .before .before .before .before .before .before .before .before .before .before .before .before .args in
+    let pre = c .before .before .before .before .before .before .before .before .before .before .before .before .pre in
     let d = c .before .before .before .before .before .carry in
-    let op : c .before .header-in .result .op < 255 =
-    omega (
-      arith,
-      request-sized (a .packet .now) (a .request)
-          (c .before .before .before .before .before .before .before .before .before .before .before .pre .1 .1) .2,
-      ap (λ (h : Header). h .op)
-          (c .before .header-in .ensures),
-    ) in
-    let meant : d .result .reply ≡ replyFor (a .slot) st (done (a .slot) (actFor (a .slot) st (a .packet .now) (a .request)) st) (a .packet .now) (a .request) =
-    d .ensures .reply ∙ ap (λ (x : State). replyFor (a .slot) st x (a .packet .now) (a .request)) (d .ensures .state) in (
-      c .before .before .before .before .before .before .before .before .before .before .before .pre .1 .0,
+    let slot = a .layout .slot1 in
+    let p = a .packet .now in
+    let st = stateOf (a .memory .now) (a .tag .now) (a .session) in
+    let oks = both-true (layoutOk (a .layout) (length (a .memory .now))) (sessionOk slot (a .session)) (pre .0) in
+    let meant : d .result .response ≡ responseFor slot st (done slot (actFor slot st p (a .request)) st) p (a .request) =
+    d .ensures .response ∙ ap (λ (x : State). responseFor slot st x p (a .request)) (d .ensures .state) in (
+      subst (λ (n : ℕ). layoutOk (a .layout) n ≡ true) (sym (d .kept .1 .1 .1 .0)) (oks .0),
       (
-        op,
-        subst (λ (m : Reply). Sayable (a .packet .now) m) (sym meant)
-            (reply-sayable (a .slot) st (a .packet .now) (a .request)
-            (c .before .before .before .before .before .before .before .before .before .before .before .pre .0)
-            (c .before .before .before .before .before .before .before .before .before .before .before .pre .1 .1)),
+        pre .1 .0,
+        (
+          omega (arith, request-sized p (a .request) (pre .1 .1) .2),
+          subst (Answerable p) (sym meant)
+              (response-answerable slot st p (a .request) (layout-bounds (a .layout) (length (a .memory .now)) (oks .0) .upload) (oks .1) (pre .1 .1)),
+        ),
       ),
     )
 
@@ -57,14 +59,11 @@ same-length-2 c = search needs
 
 returns : tie.Need-returns
 returns c =
-    let a = c .before .before .before .before .before .before .before .before .before .before .before .before .before .before .before .before .args in
-    let st = stateOf (a .memory .now) (a .tag .now) (a .session) in
+    let a = c .before .before .before .before .before .before .before .before .before .before .before .before .before .before .before .before .before .args in
     let d = c .before .before .before .before .before .before .before .before .before .before .carry in
-    let w = c .before .before .before .before .write-reply in
-    let after = stateOf (d .last .1 .1 .1 .0) (d .last .1 .1 .0) (d .result .session) in
-    carried-reset (a .slot) st (a .packet .now) (a .reply .now) (a .request) (c .before .before .before .before .before .before .header-in .result)
-    (d .result .reply) (w .result)
-    (w .last .1 .1 .1 .0) after (c .before .before .before .before .before .before .header-in .ensures) (d .ensures .state) (d .ensures .reply) (w .ensures)
+    let w = c .before .before .before .before .write-response in
+    carried-reset (a .layout) (stateOf (a .memory .now) (a .tag .now) (a .session)) (a .packet .now) (a .reply .now) (a .request) (d .result .response)
+    (w .result) _ (stateOf (d .last .1 .1 .1 .0) (d .last .1 .1 .0) (d .result .session)) (d .ensures .state) (d .ensures .response) (w .ensures)
     (sym (c .before .asks-reset .ensures) ∙ c .if1 .taken)
 
 same-length-3 : tie.Need-same-length-3
@@ -75,14 +74,11 @@ same-length-4 c = search needs
 
 returns-2 : tie.Need-returns-2
 returns-2 c =
-    let a = c .before .before .before .before .before .before .before .before .before .before .before .before .before .before .before .before .args in
-    let st = stateOf (a .memory .now) (a .tag .now) (a .session) in
+    let a = c .before .before .before .before .before .before .before .before .before .before .before .before .before .before .before .before .before .args in
     let d = c .before .before .before .before .before .before .before .before .before .before .carry in
-    let w = c .before .before .before .before .write-reply in
-    let after = stateOf (d .last .1 .1 .1 .0) (d .last .1 .1 .0) (d .result .session) in
-    carried-plain (a .slot) st (a .packet .now) (a .reply .now) (a .request) (c .before .before .before .before .before .before .header-in .result)
-    (d .result .reply) (w .result)
-    (w .last .1 .1 .1 .0) after (c .before .before .before .before .before .before .header-in .ensures) (d .ensures .state) (d .ensures .reply) (w .ensures)
+    let w = c .before .before .before .before .write-response in
+    carried-plain (a .layout) (stateOf (a .memory .now) (a .tag .now) (a .session)) (a .packet .now) (a .reply .now) (a .request) (d .result .response)
+    (w .result) _ (stateOf (d .last .1 .1 .1 .0) (d .last .1 .1 .0) (d .result .session)) (d .ensures .state) (d .ensures .response) (w .ensures)
     (sym (c .before .asks-reset .ensures) ∙ c .if1 .left)
 
 pub respond-spec : {M : Type 1} → statement M
@@ -90,8 +86,7 @@ respond-spec =
     tie.close
     (tie.spec
     carry-requires
-    header-in-requires
-    write-reply-requires
+    write-response-requires
     asks-reset-requires
     same-length
     same-length-2

@@ -8,7 +8,7 @@ use lib.ListN.{take, drop}
 use Rattle.laws.proofs.Choice.{pick-yes, pick-no}
 use Rattle.map.specs.declared.Kind.{Kind}
 use Rattle.map.specs.declared.Key.{Key}
-use Rattle.map.specs.declared.Kind.the-variants.{Echo, Reset, Erase}
+use Rattle.map.specs.declared.Kind.the-variants.{Echo, Bare, Erase}
 use Rattle.laws.specs.Bytes.{same}
 use Rattle.map.specs.Keys.{nameD, nameSlot, keyOf}
 use borrow.Author.Needs.{needs}
@@ -48,7 +48,7 @@ unfolding keyOf
 returns-3 c =
     let a = c .before .before .before .args in
     let k : List ℕ = take (a .len) (drop (a .start) (a .s .now)) in
-    (let w : Key.Other ≡ keyOf Reset k = refl in w) ∙ ap (λ (x : Kind). keyOf x k) (sym (c .enum-told2 .given .1))
+    (let w : Key.Other ≡ keyOf Bare k = refl in w) ∙ ap (λ (x : Kind). keyOf x k) (sym (c .enum-told2 .given .1))
 
 enum-told-3 : tie.Need-enum-told-3
 enum-told-3 c = search needs

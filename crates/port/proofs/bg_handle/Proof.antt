@@ -2,7 +2,6 @@
 -- Assumes nothing.
 use mathlib.Core.Path.{sym, subst, _∙_}
 use native.Mathlib.Omega.{arith}
-use Rattle.slot.specs.declared.Slot.{Slot}
 use Rattle.slot.specs.Session.{stateOf}
 use Rattle.controller.specs.declared.Answer.{Answer}
 use Rattle.controller.specs.Handle.{said}
@@ -26,6 +25,21 @@ element-copy-out-session-from-4 c = search needs
 session-from-requires : tie.Need-session-from-requires
 session-from-requires c κs = search needs
 
+element-copy-out-layout-from : tie.Need-element-copy-out-layout-from
+element-copy-out-layout-from c = search needs
+
+element-copy-out-layout-from-2 : tie.Need-element-copy-out-layout-from-2
+element-copy-out-layout-from-2 c = search needs
+
+element-copy-out-layout-from-3 : tie.Need-element-copy-out-layout-from-3
+element-copy-out-layout-from-3 c = search needs
+
+element-copy-out-layout-from-4 : tie.Need-element-copy-out-layout-from-4
+element-copy-out-layout-from-4 c = search needs
+
+layout-from-requires : tie.Need-layout-from-requires
+layout-from-requires c κs = search needs
+
 handle-packet-requires : tie.Need-handle-packet-requires
 handle-packet-requires c κs = search needs
 
@@ -34,27 +48,23 @@ enum-known-said c = search needs
 
 store-session-requires : tie.Need-store-session-requires
 store-session-requires c κs =
-    let a =
-    c .before .before .before .before .before .before .before .before .before .before .before .before .before .before .before .before .before .before
-    .before .before .before .args in
+    let a = c .before .before .before .before .before .before .before .before .before .before .before .before .before .before .before .before .before .before .before .before .before .before .before .before .before .before .args in
     let h = c .before .before .before .before .before .before .before .before .before .handle-packet in
-    let slot : Slot = record { start = a .start; size = a .size } in
-    let before = c .before .before .before .before .before .before .before .before .before .before .before .before .before .session-from in
+    let before = c .before .before .before .before .before .before .before .before .before .before .before .before .before .before .before .before .before .before .session-from in
+    let layout = c .before .before .before .before .before .before .before .before .before .before .before .before .before .layout-from in
     let small =
-    given-small slot (stateOf (a .memory .now) (a .tag .now) (before .result)) (a .packet .now) (a .reply .now) (h .result)
+    given-small (layout .result) (stateOf (a .memory .now) (a .tag .now) (before .result)) (a .packet .now) (a .reply .now) (h .result)
     (h .last .1 .1 .1 .0) (h .last .1 .1 .0) (h .last .1 .1 .1 .1 .1 .0) (h .ensures) (before .ensures .1) in
     small .0
 
-cast-t36 : tie.Need-cast-t36
-cast-t36 c =
-    let a =
-    c .before .before .before .before .before .before .before .before .before .before .before .before .before .before .before .before .before .before
-    .before .before .before .before .args in
+cast-t47 : tie.Need-cast-t47
+cast-t47 c =
+    let a = c .before .before .before .before .before .before .before .before .before .before .before .before .before .before .before .before .before .before .before .before .before .before .before .before .before .before .before .args in
     let h = c .before .before .before .before .before .before .before .before .before .before .handle-packet in
-    let slot : Slot = record { start = a .start; size = a .size } in
-    let before = c .before .before .before .before .before .before .before .before .before .before .before .before .before .before .session-from in
+    let before = c .before .before .before .before .before .before .before .before .before .before .before .before .before .before .before .before .before .before .before .session-from in
+    let layout = c .before .before .before .before .before .before .before .before .before .before .before .before .before .before .layout-from in
     let small =
-    given-small slot (stateOf (a .memory .now) (a .tag .now) (before .result)) (a .packet .now) (a .reply .now) (h .result)
+    given-small (layout .result) (stateOf (a .memory .now) (a .tag .now) (before .result)) (a .packet .now) (a .reply .now) (h .result)
     (h .last .1 .1 .1 .0) (h .last .1 .1 .0) (h .last .1 .1 .1 .1 .1 .0) (h .ensures) (before .ensures .1) in
     omega (arith, subst (λ (x : Answer). SaidSmall (said x)) (c .before .before .before .said .given .1) (small .1))
 
@@ -66,44 +76,39 @@ same-length-2 c = search needs
 
 returns : tie.Need-returns
 returns c =
-    let a =
-    c .before .before .before .before .before .before .before .before .before .before .before .before .before .before .before .before .before .before
-    .before .before .before .before .before .args in
+    let a = c .before .before .before .before .before .before .before .before .before .before .before .before .before .before .before .before .before .before .before .before .before .before .before .before .before .before .before .before .args in
     let h = c .before .before .before .before .before .before .before .before .before .before .before .handle-packet in
-    let before = c .before .before .before .before .before .before .before .before .before .before .before .before .before .before .before .session-from in
+    let before = c .before .before .before .before .before .before .before .before .before .before .before .before .before .before .before .before .before .before .before .before .session-from in
+    let layout = c .before .before .before .before .before .before .before .before .before .before .before .before .before .before .before .layout-from in
     handled-replied (a .«record» .now) (a .answer .now) (h .result) (h .last .1 .1 .1 .0) (h .last .1 .1 .0) (h .last .1 .1 .1 .1 .1 .0)
     (c .before .before .before .before .said .given .0 .0) (c .before .store-session .last .0)
     (c .before .before .before .before .said .given .1) (c .before .store-session .ensures)
     ∙ sym
-    (handled-is (a .memory .now) (a .start) (a .size) (a .«record» .now) (a .tag .now) (a .packet .now) (a .reply .now) (a .answer .now) (h .result)
-    (h .last .1 .1 .1 .0) (h .last .1 .1 .0) (h .last .1 .1 .1 .1 .1 .0) (before .result) (before .ensures .0) (h .ensures))
+    (handled-is (a .layout .now) (a .memory .now) (a .«record» .now) (a .tag .now) (a .packet .now) (a .reply .now) (a .answer .now) (layout .result) (h .result)
+    (h .last .1 .1 .1 .0) (h .last .1 .1 .0) (h .last .1 .1 .1 .1 .1 .0) (before .result) (layout .ensures) (before .ensures .0) (h .ensures))
 
 enum-known-said-2 : tie.Need-enum-known-said-2
 enum-known-said-2 c = search needs
 
 store-session-requires-2 : tie.Need-store-session-requires-2
 store-session-requires-2 c κs =
-    let a =
-    c .before .before .before .before .before .before .before .before .before .before .before .before .before .before .before .before .before .before
-    .before .before .before .args in
+    let a = c .before .before .before .before .before .before .before .before .before .before .before .before .before .before .before .before .before .before .before .before .before .before .before .before .before .before .args in
     let h = c .before .before .before .before .before .before .before .before .before .handle-packet in
-    let slot : Slot = record { start = a .start; size = a .size } in
-    let before = c .before .before .before .before .before .before .before .before .before .before .before .before .before .session-from in
+    let before = c .before .before .before .before .before .before .before .before .before .before .before .before .before .before .before .before .before .before .session-from in
+    let layout = c .before .before .before .before .before .before .before .before .before .before .before .before .before .layout-from in
     let small =
-    given-small slot (stateOf (a .memory .now) (a .tag .now) (before .result)) (a .packet .now) (a .reply .now) (h .result)
+    given-small (layout .result) (stateOf (a .memory .now) (a .tag .now) (before .result)) (a .packet .now) (a .reply .now) (h .result)
     (h .last .1 .1 .1 .0) (h .last .1 .1 .0) (h .last .1 .1 .1 .1 .1 .0) (h .ensures) (before .ensures .1) in
     small .0
 
-cast-t39 : tie.Need-cast-t39
-cast-t39 c =
-    let a =
-    c .before .before .before .before .before .before .before .before .before .before .before .before .before .before .before .before .before .before
-    .before .before .before .before .args in
+cast-t50 : tie.Need-cast-t50
+cast-t50 c =
+    let a = c .before .before .before .before .before .before .before .before .before .before .before .before .before .before .before .before .before .before .before .before .before .before .before .before .before .before .before .args in
     let h = c .before .before .before .before .before .before .before .before .before .before .handle-packet in
-    let slot : Slot = record { start = a .start; size = a .size } in
-    let before = c .before .before .before .before .before .before .before .before .before .before .before .before .before .before .session-from in
+    let before = c .before .before .before .before .before .before .before .before .before .before .before .before .before .before .before .before .before .before .before .session-from in
+    let layout = c .before .before .before .before .before .before .before .before .before .before .before .before .before .before .layout-from in
     let small =
-    given-small slot (stateOf (a .memory .now) (a .tag .now) (before .result)) (a .packet .now) (a .reply .now) (h .result)
+    given-small (layout .result) (stateOf (a .memory .now) (a .tag .now) (before .result)) (a .packet .now) (a .reply .now) (h .result)
     (h .last .1 .1 .1 .0) (h .last .1 .1 .0) (h .last .1 .1 .1 .1 .1 .0) (h .ensures) (before .ensures .1) in
     omega (arith, subst (λ (x : Answer). SaidSmall (said x)) (c .before .before .before .said2 .given .1) (small .1))
 
@@ -115,17 +120,16 @@ same-length-4 c = search needs
 
 returns-2 : tie.Need-returns-2
 returns-2 c =
-    let a =
-    c .before .before .before .before .before .before .before .before .before .before .before .before .before .before .before .before .before .before
-    .before .before .before .before .before .args in
+    let a = c .before .before .before .before .before .before .before .before .before .before .before .before .before .before .before .before .before .before .before .before .before .before .before .before .before .before .before .before .args in
     let h = c .before .before .before .before .before .before .before .before .before .before .before .handle-packet in
-    let before = c .before .before .before .before .before .before .before .before .before .before .before .before .before .before .before .session-from in
+    let before = c .before .before .before .before .before .before .before .before .before .before .before .before .before .before .before .before .before .before .before .before .session-from in
+    let layout = c .before .before .before .before .before .before .before .before .before .before .before .before .before .before .before .layout-from in
     handled-reset (a .«record» .now) (a .answer .now) (h .result) (h .last .1 .1 .1 .0) (h .last .1 .1 .0) (h .last .1 .1 .1 .1 .1 .0)
     (c .before .before .before .before .said2 .given .0 .0) (c .before .store-session2 .last .0)
     (c .before .before .before .before .said2 .given .1) (c .before .store-session2 .ensures)
     ∙ sym
-    (handled-is (a .memory .now) (a .start) (a .size) (a .«record» .now) (a .tag .now) (a .packet .now) (a .reply .now) (a .answer .now) (h .result)
-    (h .last .1 .1 .1 .0) (h .last .1 .1 .0) (h .last .1 .1 .1 .1 .1 .0) (before .result) (before .ensures .0) (h .ensures))
+    (handled-is (a .layout .now) (a .memory .now) (a .«record» .now) (a .tag .now) (a .packet .now) (a .reply .now) (a .answer .now) (layout .result) (h .result)
+    (h .last .1 .1 .1 .0) (h .last .1 .1 .0) (h .last .1 .1 .1 .1 .1 .0) (before .result) (layout .ensures) (before .ensures .0) (h .ensures))
 
 enum-known-said-3 : tie.Need-enum-known-said-3
 enum-known-said-3 c = search needs
@@ -141,17 +145,16 @@ same-length-6 c = search needs
 
 returns-3 : tie.Need-returns-3
 returns-3 c =
-    let a =
-    c .before .before .before .before .before .before .before .before .before .before .before .before .before .before .before .before .before .before
-    .before .before .before .args in
+    let a = c .before .before .before .before .before .before .before .before .before .before .before .before .before .before .before .before .before .before .before .before .before .before .before .before .before .before .args in
     let h = c .before .before .before .before .before .before .before .before .before .handle-packet in
-    let before = c .before .before .before .before .before .before .before .before .before .before .before .before .before .session-from in
+    let before = c .before .before .before .before .before .before .before .before .before .before .before .before .before .before .before .before .before .before .session-from in
+    let layout = c .before .before .before .before .before .before .before .before .before .before .before .before .before .layout-from in
     handled-refused (a .«record» .now) (a .answer .now) (h .result) (h .last .1 .1 .1 .0) (h .last .1 .1 .0) (h .last .1 .1 .1 .1 .1 .0)
     (c .number .result) (c .before .before .said3 .given .0 .0)
     (c .before .before .said3 .given .1) (c .number .ensures)
     ∙ sym
-    (handled-is (a .memory .now) (a .start) (a .size) (a .«record» .now) (a .tag .now) (a .packet .now) (a .reply .now) (a .answer .now) (h .result)
-    (h .last .1 .1 .1 .0) (h .last .1 .1 .0) (h .last .1 .1 .1 .1 .1 .0) (before .result) (before .ensures .0) (h .ensures))
+    (handled-is (a .layout .now) (a .memory .now) (a .«record» .now) (a .tag .now) (a .packet .now) (a .reply .now) (a .answer .now) (layout .result) (h .result)
+    (h .last .1 .1 .1 .0) (h .last .1 .1 .0) (h .last .1 .1 .1 .1 .1 .0) (before .result) (layout .ensures) (before .ensures .0) (h .ensures))
 
 pub bg-handle-spec : {M : Type 1} → statement M
 bg-handle-spec =
@@ -162,16 +165,21 @@ bg-handle-spec =
     element-copy-out-session-from-3
     element-copy-out-session-from-4
     session-from-requires
+    element-copy-out-layout-from
+    element-copy-out-layout-from-2
+    element-copy-out-layout-from-3
+    element-copy-out-layout-from-4
+    layout-from-requires
     handle-packet-requires
     enum-known-said
     store-session-requires
-    cast-t36
+    cast-t47
     same-length
     same-length-2
     returns
     enum-known-said-2
     store-session-requires-2
-    cast-t39
+    cast-t50
     same-length-3
     same-length-4
     returns-2

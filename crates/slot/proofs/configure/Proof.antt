@@ -1,4 +1,4 @@
--- `slot::configure` meets its contract: it refuses just where the region is not possible.
+-- `slot::configure` meets its contract: it refuses just where the regions are not possible.
 -- Assumes nothing.
 use borrow.Author.Tests.{not-true, not-false}
 use Rattle.laws.proofs.Choice.{pick-yes, pick-no}
@@ -7,16 +7,16 @@ use borrow.Author.Needs.{needs}
 use Rattle.slot.proofs.configure.Statement.{statement}
 use Rattle.slot.proofs.configure.Tie as tie
 
-region-possible-requires : tie.Need-region-possible-requires
-region-possible-requires c κs = search needs
+layout-possible-requires : tie.Need-layout-possible-requires
+layout-possible-requires c κs = search needs
 
 returns : tie.Need-returns
 unfolding configured
-returns c = simp (← c .before .region-possible .ensures, not-true (c .before .region-possible .result) (c .if1 .taken), pick-no)
+returns c = simp (← c .before .layout-possible .ensures, not-true (c .before .layout-possible .result) (c .if1 .taken), pick-no)
 
 returns-2 : tie.Need-returns-2
 unfolding configured
-returns-2 c = simp (← c .before .region-possible .ensures, not-false (c .before .region-possible .result) (c .if1 .left), pick-yes)
+returns-2 c = simp (← c .before .layout-possible .ensures, not-false (c .before .layout-possible .result) (c .if1 .left), pick-yes)
 
 pub configure-spec : {M : Type 1} → statement M
-configure-spec = tie.close (tie.spec region-possible-requires returns returns-2)
+configure-spec = tie.close (tie.spec layout-possible-requires returns returns-2)

@@ -1,4 +1,4 @@
--- `slot::possible` meets its contract: the region is tested first, then the session.
+-- `slot::possible` meets its contract: the regions are tested first, then the session.
 -- Assumes nothing.
 use borrow.Author.Tests.{not-true, not-false}
 use Rattle.laws.proofs.Choice.{both-yes, both-no}
@@ -6,20 +6,20 @@ use borrow.Author.Needs.{needs}
 use Rattle.slot.proofs.possible.Statement.{statement}
 use Rattle.slot.proofs.possible.Tie as tie
 
-region-possible-requires : tie.Need-region-possible-requires
-region-possible-requires c κs = search needs
+layout-possible-requires : tie.Need-layout-possible-requires
+layout-possible-requires c κs = search needs
 
 returns : tie.Need-returns
-returns c = simp (← c .before .region-possible .ensures, not-true (c .before .region-possible .result) (c .if1 .taken), both-no)
+returns c = simp (← c .before .layout-possible .ensures, not-true (c .before .layout-possible .result) (c .if1 .taken), both-no)
 
 session-possible-requires : tie.Need-session-possible-requires
 session-possible-requires c κs = search needs
 
 returns-2 : tie.Need-returns-2
 returns-2 c =
-    let region = c .before .before .region-possible in
-    simp (← region .ensures, not-false (region .result) (c .before .if1 .left), both-yes, c .session-possible .ensures)
+    let regions = c .before .before .before .layout-possible in
+    simp (← regions .ensures, not-false (regions .result) (c .before .before .if1 .left), both-yes, c .session-possible .ensures)
 
 pub possible-spec : {M : Type 1} → statement M
 possible-spec =
-    tie.close (tie.spec region-possible-requires returns session-possible-requires returns-2)
+    tie.close (tie.spec layout-possible-requires returns session-possible-requires returns-2)

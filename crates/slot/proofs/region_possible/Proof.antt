@@ -1,8 +1,8 @@
--- `slot::region_possible` meets its contract: its tests are those of the definition, and no sum is made.
+-- `slot::region_possible` meets its contract: its tests are those of the definition.
 -- Assumes nothing.
-use mathlib.Core.Path.{sym}
-use native.Mathlib.Omega.{arith}
-use Rattle.slot.proofs.Laws.{region-small, region-large, region-past, region-last}
+use mathlib.Core.Path.{sym, _∙_}
+use Rattle.slot.proofs.Laws.{region-small, region-large, region-rest}
+use borrow.Author.Needs.{needs}
 use Rattle.slot.proofs.region_possible.Statement.{statement}
 use Rattle.slot.proofs.region_possible.Tie as tie
 
@@ -12,13 +12,13 @@ returns c = sym (region-small (c .before .args .slot) (c .before .args .room) (c
 returns-2 : tie.Need-returns-2
 returns-2 c = sym (region-large (c .before .before .args .slot) (c .before .before .args .room) (c .if2 .taken))
 
-returns-3 : tie.Need-returns-3
-returns-3 c = sym (region-past (c .before .before .before .args .slot) (c .before .before .before .args .room) (omega arith))
+lies-in-requires : tie.Need-lies-in-requires
+lies-in-requires c κs = search needs
 
-returns-4 : tie.Need-returns-4
-returns-4 c =
-    let a = c .before .before .before .before .args in
-    region-last (a .slot) (a .room) (c .before .before .before .if1 .left) (c .before .before .if2 .left) (c .before .if3 .left)
+returns-3 : tie.Need-returns-3
+returns-3 c =
+    let a = c .before .before .before .args in
+    c .lies-in .ensures ∙ region-rest (a .slot) (a .room) (c .before .before .if1 .left) (c .before .if2 .left)
 
 pub region-possible-spec : {M : Type 1} → statement M
-region-possible-spec = tie.close (tie.spec returns returns-2 returns-3 returns-4)
+region-possible-spec = tie.close (tie.spec returns returns-2 lies-in-requires returns-3)

@@ -3,6 +3,7 @@
 use borrow.Author.Tests.{eq-eqb, ne-eqb}
 use Rattle.laws.proofs.Choice.{pick-yes, pick-no, both-yes, both-no}
 use Rattle.smp.specs.Request.{commandOf}
+use borrow.Author.Needs.{needs}
 use Rattle.smp.proofs.command_of.Statement.{statement}
 use Rattle.smp.proofs.command_of.Tie as tie
 
@@ -50,12 +51,22 @@ returns-4 c =
 
 returns-5 : tie.Need-returns-5
 unfolding commandOf
-returns-5 c = simp (ne-eqb _ _ (c .before .before .if1 .left), ne-eqb _ _ (c .if5 .taken), pick-no, both-no)
+returns-5 c = simp (ne-eqb _ _ (c .before .before .if1 .left), ne-eqb _ _ (c .if5 .taken), pick-no)
+
+image-read-requires : tie.Need-image-read-requires
+image-read-requires c κs = search needs
 
 returns-6 : tie.Need-returns-6
 unfolding commandOf
 returns-6 c =
-    simp (ne-eqb _ _ (c .before .before .before .before .if1 .left), eq-eqb _ _ (c .before .before .if5 .left), ne-eqb _ _ (c .if6 .taken), pick-no, both-yes)
+    simp (
+      ne-eqb _ _ (c .before .before .before .before .before .if1 .left),
+      eq-eqb _ _ (c .before .before .before .if5 .left),
+      ne-eqb _ _ (c .before .if6 .taken),
+      pick-yes,
+      pick-no,
+      c .image-read .ensures,
+    )
 
 returns-7 : tie.Need-returns-7
 unfolding commandOf
@@ -67,7 +78,6 @@ returns-7 c =
       eq-eqb _ _ (c .if7 .taken),
       pick-yes,
       pick-no,
-      both-yes,
     )
 
 returns-8 : tie.Need-returns-8
@@ -75,15 +85,12 @@ unfolding commandOf
 returns-8 c =
     simp (
       ne-eqb _ _ (c .before .before .before .before .before .before .before .before .if1 .left),
-      eq-eqb _ _
-          (c .before .before .before .before .before .before .if5 .left),
+      eq-eqb _ _ (c .before .before .before .before .before .before .if5 .left),
       eq-eqb _ _ (c .before .before .before .before .if6 .left),
-      ne-eqb _ _
-          (c .before .before .if7 .left),
+      ne-eqb _ _ (c .before .before .if7 .left),
       eq-eqb _ _ (c .if8 .taken),
       pick-yes,
       pick-no,
-      both-yes,
     )
 
 returns-9 : tie.Need-returns-9
@@ -91,16 +98,12 @@ unfolding commandOf
 returns-9 c =
     simp (
       ne-eqb _ _ (c .before .before .before .before .before .before .before .before .if1 .left),
-      eq-eqb _ _
-          (c .before .before .before .before .before .before .if5 .left),
+      eq-eqb _ _ (c .before .before .before .before .before .before .if5 .left),
       eq-eqb _ _ (c .before .before .before .before .if6 .left),
-      ne-eqb _ _
-          (c .before .before .if7 .left),
+      ne-eqb _ _ (c .before .before .if7 .left),
       ne-eqb _ _ (c .if8 .left),
       pick-yes,
       pick-no,
-      both-yes,
-      both-no,
     )
 
 pub command-of-spec : {M : Type 1} → statement M
@@ -112,6 +115,7 @@ command-of-spec =
     returns-3
     returns-4
     returns-5
+    image-read-requires
     returns-6
     returns-7
     returns-8

@@ -9,34 +9,23 @@ use Rattle.smp.proofs.put_reply.Tie as tie
 put-map-requires : tie.Need-put-map-requires
 put-map-requires c κs = search needs
 
-sub-reply-header : tie.Need-sub-reply-header
-sub-reply-header c = search needs
-
-reply-header-requires : tie.Need-reply-header-requires
-reply-header-requires c κs = search needs
-
-put-header-requires : tie.Need-put-header-requires
-put-header-requires c κs = search needs
+put-reply-header-requires : tie.Need-put-reply-header-requires
+put-reply-header-requires c κs = search needs
 
 same-length : tie.Need-same-length
 same-length c = search needs
 
 returns : tie.Need-returns
 returns c =
-    let a = c .before .before .before .before .before .before .before .before .before .before .before .args in
-    packet-put (a .h) (c .before .before .before .before .reply-header .result) (replyMap (a .s .now) (a .reply))
-    (c .before .before .before .before .before .before .before .put-map .result)
-    (c .before .before .before .before .before .before .before .before .before .before .before .pre .1 .1)
-    (c .before .before .before .before .before .before .before .put-map .ensures) (c .before .before .before .before .reply-header .ensures)
-    (c .before .before .put-header .ensures)
+    let a = c .before .before .before .before .before .before .before .before .before .before .args in
+    packet-put (a .h) (replyMap (a .s .now) (a .reply)) (c .before .before .before .before .before .before .put-map .result) (c .before .before .before .before .before .before .before .before .before .before .pre .1 .1)
+    (c .before .before .before .before .before .before .put-map .ensures) (c .before .before .put-reply-header .ensures)
 
 pub put-reply-spec : {M : Type 1} → statement M
 put-reply-spec =
     tie.close
     (tie.spec
     put-map-requires
-    sub-reply-header
-    reply-header-requires
-    put-header-requires
+    put-reply-header-requires
     same-length
     returns)

@@ -22,17 +22,23 @@ reset-in-requires c κs = search needs
 enum-told-3 : tie.Need-enum-told-3
 enum-told-3 c = search needs
 
-upload-in-requires : tie.Need-upload-in-requires
-upload-in-requires c κs = search needs
+images-in-requires : tie.Need-images-in-requires
+images-in-requires c κs = search needs
 
 enum-told-4 : tie.Need-enum-told-4
 enum-told-4 c = search needs
 
-erase-in-requires : tie.Need-erase-in-requires
-erase-in-requires c κs = search needs
+upload-in-requires : tie.Need-upload-in-requires
+upload-in-requires c κs = search needs
 
 enum-told-5 : tie.Need-enum-told-5
 enum-told-5 c = search needs
+
+erase-in-requires : tie.Need-erase-in-requires
+erase-in-requires c κs = search needs
+
+enum-told-6 : tie.Need-enum-told-6
+enum-told-6 c = search needs
 
 returns : tie.Need-returns
 returns c =
@@ -47,18 +53,23 @@ returns-2 c =
 returns-3 : tie.Need-returns-3
 returns-3 c =
     let a = c .before .before .before .before .args in
-    c .upload-in .ensures ∙ ap (λ (k : Command). requestOf k (a .s .now)) (sym (c .before .enum-told3 .given .1))
+    c .images-in .ensures ∙ ap (λ (k : Command). requestOf k (a .s .now)) (sym (c .before .enum-told3 .given .1))
 
 returns-4 : tie.Need-returns-4
 returns-4 c =
     let a = c .before .before .before .before .args in
-    c .erase-in .ensures ∙ ap (λ (k : Command). requestOf k (a .s .now)) (sym (c .before .enum-told4 .given .1))
+    c .upload-in .ensures ∙ ap (λ (k : Command). requestOf k (a .s .now)) (sym (c .before .enum-told4 .given .1))
 
 returns-5 : tie.Need-returns-5
-unfolding requestOf
 returns-5 c =
+    let a = c .before .before .before .before .args in
+    c .erase-in .ensures ∙ ap (λ (k : Command). requestOf k (a .s .now)) (sym (c .before .enum-told5 .given .1))
+
+returns-6 : tie.Need-returns-6
+unfolding requestOf
+returns-6 c =
     let a = c .before .before .before .args in
-    ap (λ (k : Command). requestOf k (a .s .now)) (sym (c .enum-told5 .given .1))
+    ap (λ (k : Command). requestOf k (a .s .now)) (sym (c .enum-told6 .given .1))
 
 pub request-of-spec : {M : Type 1} → statement M
 request-of-spec =
@@ -69,12 +80,15 @@ request-of-spec =
     enum-told-2
     reset-in-requires
     enum-told-3
-    upload-in-requires
+    images-in-requires
     enum-told-4
-    erase-in-requires
+    upload-in-requires
     enum-told-5
+    erase-in-requires
+    enum-told-6
     returns
     returns-2
     returns-3
     returns-4
-    returns-5)
+    returns-5
+    returns-6)

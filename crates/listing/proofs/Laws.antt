@@ -1,0 +1,203 @@
+-- The list's parts: decimal digits, a turn of the loop that writes them, the parts in the order in which they are written, and how long each is.
+-- Assumes nothing.
+use mathlib.Core.Path.{_≡_, refl, sym, ap, _∙_}
+use mathlib.Core.List.{List, [], _∷_, _++_, append-assoc}
+use Prim.Native.Nat.{ℕ, zero, suc, _+_, _-_, _/_, _%_, _^_, _≤_, _<_}
+use native.Mathlib.Nat.{pow-suc, div-div-eq-div-mul, div-one}
+use native.Mathlib.Omega.{arith}
+use lib.Dec.{ltb, lit<}
+use lib.ListN.{length, take, drop, set, length-append, length-take, length-drop}
+use Rattle.laws.specs.Bytes.{pasted}
+use Rattle.laws.specs.Parts.{partOf}
+use Rattle.laws.proofs.Choice.{pick-case}
+use Rattle.laws.proofs.Lists.{pasted-none}
+use Rattle.cbor.specs.Write.{headOf, unsigned, bytesOf, textOf, mapOf}
+use Rattle.cbor.proofs.Laws.{head-size, form-one}
+use Rattle.cbor.proofs.Numbers.{pasted-before}
+use Rattle.map.specs.Keys.{nameSlot}
+use Rattle.slot.specs.declared.Slot.{Slot}
+use Rattle.slot.specs.declared.Layout.{Layout}
+use Rattle.slot.specs.History.{slotIn}
+use Rattle.smp.proofs.Writing.{head-tiny}
+use Rattle.images.specs.declared.Image.{Image}
+use Rattle.images.specs.Inner.{ImageWithin}
+use Rattle.images.proofs.Laws.{image-within}
+use Rattle.listing.specs.Listing.{
+  nameImages,
+  nameVersion,
+  nameHash,
+  digits,
+  digitCount,
+  versionText,
+  arrayOf,
+  imageMap,
+  imageCount,
+  imageAt,
+  listMap,
+}
+use Rattle.listing.specs.Inner.{namedPart, imageLength, listFront}
+
+-- as many digits as were asked for
+pub digits-length : (w n : ℕ) → length (digits w n) ≡ w
+unfolding digits
+digits-length zero n = refl
+digits-length (suc w) n = ap suc (digits-length w n)
+
+-- nothing is written yet
+pub digits-none : (m : List ℕ) (at w n : ℕ) → m ≡ pasted m at (digits (w - w) n)
+unfolding digits
+digits-none m at w n =
+    let e : w - w ≡ 0 = omega arith in
+    rw e (sym (pasted-none m at))
+
+-- nothing is taken off the number yet
+pub tens-none : (w n : ℕ) → n ≡ n / 10 ^ (w - w)
+tens-none w n =
+    let e : w - w ≡ 0 = omega arith in
+    rw (e, div-one)
+
+-- one digit is written, the one before those that are
+pub digits-turn : (m : List ℕ) (at i w n : ℕ) → 0 < i → i ≤ w → at + w ≤ length m
+    → set (pasted m (at + i) (digits (w - i) n)) (at + (i - 1)) (48 + n / 10 ^ (w - i) % 10) ≡ pasted m (at + (i - 1)) (digits (w - (i - 1)) n)
+unfolding digits
+digits-turn m at i w n p h k =
+    let e : w - (i - 1) ≡ suc (w - i) = omega arith in
+    let next : at + i ≡ at + (i - 1) + 1 = omega arith in
+    rw (e, next, pasted-before m (at + (i - 1)) (48 + n / 10 ^ (w - i) % 10) (digits (w - i) n) (rw digits-length (omega arith)))
+
+-- what is left of the number after it
+pub tens-turn : (n i w : ℕ) → 0 < i → i ≤ w → n / 10 ^ (w - i) / 10 ≡ n / 10 ^ (w - (i - 1))
+tens-turn n i w p h =
+    let e : w - (i - 1) ≡ suc (w - i) = omega arith in
+    rw (e, pow-suc, div-div-eq-div-mul)
+
+-- a number has at most five digits
+count-most : (n : ℕ) → digitCount n ≤ 5
+unfolding digitCount
+count-most n =
+    let P : ℕ → Type 0 = λ k. k ≤ 5 in
+    pick-case P (ltb n 10) _ _ (λ e. lit< tt)
+    (λ e. pick-case P (ltb n 100) _ _ (λ f. lit< tt)
+    (λ f. pick-case P (ltb n 1000) _ _ (λ g. lit< tt)
+    (λ g. pick-case P (ltb n 10000) _ _ (λ h. lit< tt) (λ h. lit< tt))))
+
+-- how long a version is
+pub version-length : (major minor revision : ℕ) → length (versionText major minor revision) ≡ digitCount major + digitCount minor + digitCount revision + 2
+version-length major minor revision = simp (length-append, digits-length) (omega arith)
+
+-- at most 17 bytes
+pub version-most : (major minor revision : ℕ) → length (versionText major minor revision) ≤ 17
+version-most major minor revision =
+    omega (arith, version-length major minor revision, count-most major, count-most minor, count-most revision)
+
+-- two lists after another are grouped to the left
+pub three-parts : (x y z : List ℕ) → x ++ (y ++ z) ≡ (x ++ y) ++ z
+three-parts x y z = sym (append-assoc x y z)
+
+-- three lists after another are grouped to the left
+pub four-parts : (x y z t : List ℕ) → x ++ (y ++ (z ++ t)) ≡ ((x ++ y) ++ z) ++ t
+four-parts x y z t = simp append-assoc
+
+-- five lists of which the second and the third are one part
+five-parts : (x y z t u : List ℕ) → x ++ (y ++ (z ++ (t ++ u))) ≡ ((x ++ (y ++ z)) ++ t) ++ u
+five-parts x y z t u = simp append-assoc
+
+-- an image's map in the parts that its writer writes
+pub image-parts : (number : ℕ) (s : List ℕ) (major minor revision hash : ℕ) → imageMap number s (Image.At major minor revision hash)
+    ≡ (namedPart number major minor revision ++ textOf nameHash) ++ bytesOf (partOf s hash 32)
+unfolding imageMap
+image-parts number s major minor revision hash =
+    five-parts (mapOf 3) (textOf nameSlot ++ unsigned number) (textOf nameVersion ++ textOf (versionText major minor revision)) (textOf nameHash)
+    (bytesOf (partOf s hash 32))
+
+-- the list's map in the parts that its writer writes, where it has the images and their count
+pub list-parts : (m : List ℕ) (layout : Layout) (n : ℕ) (first second : Image) → first ≡ imageAt m (layout .slot0)
+    → second ≡ imageAt m (layout .slot1)
+    → n ≡ imageCount first + imageCount second
+    → listMap m layout ≡ (listFront n ++ imageMap 0 (slotIn (layout .slot0) m) first) ++ imageMap 1 (slotIn (layout .slot1) m) second
+unfolding listMap
+list-parts m layout n first second e f g =
+    rw (g, e, f) (five-parts (mapOf 1) (textOf nameImages) (arrayOf (imageCount (imageAt m (layout .slot0)) + imageCount (imageAt m (layout .slot1))))
+    (imageMap 0 (slotIn (layout .slot0) m) (imageAt m (layout .slot0))) (imageMap 1 (slotIn (layout .slot1) m) (imageAt m (layout .slot1))))
+
+-- a hash's byte string in the parts that its writer writes
+pub hash-parts : (s : List ℕ) (hash : ℕ) → hash + 32 ≤ length s → bytesOf (partOf s hash 32) ≡ headOf 2 32 ++ take (hash + 32 - hash) (drop hash s)
+hash-parts s hash h =
+    let all : hash + 32 - hash ≡ 32 = omega arith in
+    let size : length (take 32 (drop hash s)) ≡ 32 = simp (length-take, length-drop) (omega arith) in
+    rw all (ap (λ (k : ℕ). headOf 2 k ++ take 32 (drop hash s)) size)
+
+-- the part from a slot's start to its end is the slot
+pub part-slot : (slot : Slot) (m : List ℕ) → take (slot .start + slot .size - slot .start) (drop (slot .start) m) ≡ slotIn slot m
+part-slot slot m =
+    let e : slot .start + slot .size - slot .start ≡ slot .size = omega arith in
+    rw e
+
+-- a text below 24 bytes takes one byte more
+text-length : (x : List ℕ) → length x < 24 → length (textOf x) ≡ 1 + length x
+text-length x h = rw length-append (omega (arith, head-tiny 3 (length x) h))
+
+-- a hash takes two bytes more than its 32
+pub hash-length : (s : List ℕ) (hash : ℕ) → hash + 32 ≤ length s → length (bytesOf (partOf s hash 32)) ≡ 34
+hash-length s hash h =
+    let e : length (partOf s hash 32) ≡ 32 = simp (length-take, length-drop) (omega arith) in
+    rw (length-append, e) (omega (arith, head-size 2 32, form-one 32 (lit< tt) (lit< tt) .1))
+
+-- how long the map of an image is, in a slot whose number is below 24
+pub image-length : (number : ℕ) (s : List ℕ) (image : Image) → number < 24 → ImageWithin s image → length (imageMap number s image) ≡ imageLength image
+unfolding imageMap imageLength
+image-length number s Image.Absent h k = refl
+image-length number s (Image.At major minor revision hash) h k =
+    let v : List ℕ = versionText major minor revision in
+    omega (
+      arith,
+      sums (mapOf 3) (textOf nameSlot) (unsigned number) (textOf nameVersion) (textOf v) (textOf nameHash) (bytesOf (partOf s hash 32)),
+      head-tiny 5 3 (lit< tt),
+      text-length nameSlot (lit< tt),
+      head-tiny 0 number h,
+      text-length nameVersion (lit< tt),
+      text-length v (omega (arith, version-most major minor revision)),
+      text-length nameHash (lit< tt),
+      hash-length s hash k,
+    )
+  where
+    sums : (a b c d e f g : List ℕ) → length (a ++ ((b ++ c) ++ ((d ++ e) ++ (f ++ g))))
+        ≡ length a + length b + length c + length d + length e + length f + length g
+    sums a b c d e f g = simp length-append (omega arith)
+
+-- at most 72 bytes
+image-most : (image : Image) → imageLength image ≤ 72
+unfolding imageLength
+image-most Image.Absent = omega arith
+image-most (Image.At major minor revision hash) = omega (arith, version-most major minor revision)
+
+-- a slot has at most one image
+one-image : (image : Image) → imageCount image ≤ 1
+unfolding imageCount
+one-image Image.Absent = omega arith
+one-image (Image.At major minor revision hash) = lit< tt
+
+-- how long the list's map is
+pub list-long : (m : List ℕ) (layout : Layout) → length (listMap m layout)
+    ≡ 9 + imageLength (imageAt m (layout .slot0)) + imageLength (imageAt m (layout .slot1))
+unfolding listMap
+list-long m layout =
+    let first : Image = imageAt m (layout .slot0) in
+    let second : Image = imageAt m (layout .slot1) in
+    let n : ℕ = imageCount first + imageCount second in
+    omega (
+      arith,
+      sums (mapOf 1) (textOf nameImages) (arrayOf n) (imageMap 0 (slotIn (layout .slot0) m) first) (imageMap 1 (slotIn (layout .slot1) m) second),
+      head-tiny 5 1 (lit< tt),
+      text-length nameImages (lit< tt),
+      head-tiny 4 n (omega (arith, one-image first, one-image second)),
+      image-length 0 (slotIn (layout .slot0) m) first (lit< tt) (image-within (slotIn (layout .slot0) m)),
+      image-length 1 (slotIn (layout .slot1) m) second (lit< tt) (image-within (slotIn (layout .slot1) m)),
+    )
+  where
+    sums : (a b c d e : List ℕ) → length (a ++ (b ++ (c ++ (d ++ e)))) ≡ length a + length b + length c + length d + length e
+    sums a b c d e = simp length-append (omega arith)
+
+-- at most 153 bytes
+pub list-length : (m : List ℕ) (layout : Layout) → length (listMap m layout) ≤ 153
+list-length m layout = omega (arith, list-long m layout, image-most (imageAt m (layout .slot0)), image-most (imageAt m (layout .slot1)))
