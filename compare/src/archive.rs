@@ -1,6 +1,6 @@
 //! The archive's calls by the C header, with guards around all that is lent.
 
-use crate::call::{Call, Kind, Outcome};
+use crate::call::{layout_of, Call, Kind, Outcome};
 use crate::room::Room;
 
 extern "C" {
@@ -29,12 +29,11 @@ extern "C" {
         out_len: usize,
         sent: *mut u32,
     ) -> u32;
-    fn bg_configure(start: usize, size: usize, memory_len: usize, session: *mut u32, tag: *mut u8) -> u32;
+    fn bg_configure(layout: *const usize, memory_len: usize, session: *mut u32, tag: *mut u8) -> u32;
     fn bg_handle(
+        layout: *const usize,
         memory: *mut u8,
         memory_len: usize,
-        start: usize,
-        size: usize,
         session: *mut u32,
         tag: *mut u8,
         packet: *const u8,
@@ -73,23 +72,32 @@ extern "C" {
 /// How many guard elements stand on each side of what is lent.
 const GUARD: usize = 48;
 
-/// An element that can be lent, with its value in the guard at a place.
-pub trait Element: Copy + PartialEq {
-    /// What stands at a place of the guard.
-    fn guard(place: usize) -> Self;
+/// An element that can be lent.
+pub trait Element: Copy + PartialEq + 'static {
+    /// What stands in the guards, before what is lent and behind it.
+    const GUARDS: &'static [Self];
 }
 
-impl Element for u8 {
-    fn guard(place: usize) -> u8 {
-        (place * 29 + 0xA5) as u8
-    }
+/// Makes a type of numbers one of elements.
+macro_rules! element {
+    ($number:ty) => {
+        impl Element for $number {
+            const GUARDS: &'static [$number] = &{
+                let mut guards = [0; 2 * GUARD];
+                let mut place = 0;
+                while place < 2 * GUARD {
+                    guards[place] = (place as u64).wrapping_mul(0x9E37_79B9_7F4A_7C15) as $number ^ 0xA5;
+                    place += 1;
+                }
+                guards
+            };
+        }
+    };
 }
 
-impl Element for u32 {
-    fn guard(place: usize) -> u32 {
-        0x5A5A_A5A5 ^ (place as u32) << 4
-    }
-}
+element!(u8);
+element!(u32);
+element!(usize);
 
 /// Where what is lent stands.
 #[derive(Clone, Copy, Debug)]
@@ -133,9 +141,9 @@ impl<T: Element> Lent<T> {
     /// Copies what is to be lent between so many guard elements.
     fn between(content: &[T], guard: usize) -> Holder<T> {
         let mut all = Vec::with_capacity(content.len() + 2 * guard);
-        all.extend((0..guard).map(T::guard));
+        all.extend_from_slice(&T::GUARDS[..guard]);
         all.extend_from_slice(content);
-        all.extend((guard..2 * guard).map(T::guard));
+        all.extend_from_slice(&T::GUARDS[guard..2 * guard]);
         Holder::Elements(all, guard)
     }
 
@@ -165,8 +173,8 @@ impl<T: Element> Lent<T> {
     fn kept(&self) -> bool {
         match &self.holder {
             Holder::Elements(all, guard) => {
-                let (before, after) = (&all[..*guard], &all[guard + self.length..]);
-                before.iter().chain(after).enumerate().all(|(place, element)| *element == T::guard(place))
+                let (before, after) = T::GUARDS[..2 * guard].split_at(*guard);
+                all[..*guard] == *before && all[guard + self.length..] == *after
             }
             Holder::Room(..) => true,
         }
@@ -200,6 +208,9 @@ pub fn call(call: &Call, place: Place) -> Outcome {
     let mut buffers: Vec<Lent<u8>> =
         call.buffers.iter().map(|buffer| Lent::new(buffer, place, null)).collect();
     let numbers = &call.numbers;
+    let layout = call.kind.has_layout().then(|| layout_of(call).map(|number| number as usize));
+    let mut lent_layout = layout.map(|layout| Lent::new(&layout, place, false));
+    let layout_pointer = lent_layout.as_mut().map_or(std::ptr::null_mut(), Lent::pointer);
     // SAFETY: every pointer is to as many elements as the header asks for, and no two overlap.
     let returned = unsafe {
         match (call.kind, &mut words[..], &mut buffers[..]) {
@@ -228,18 +239,13 @@ pub fn call(call: &Call, place: Place) -> Outcome {
                 out.length,
                 sent.pointer(),
             ),
-            (Kind::Configure, [session], [tag]) => bg_configure(
-                numbers[0] as usize,
-                numbers[1] as usize,
-                numbers[2] as usize,
-                session.pointer(),
-                tag.pointer(),
-            ),
+            (Kind::Configure, [session], [tag]) => {
+                bg_configure(layout_pointer, numbers[4] as usize, session.pointer(), tag.pointer())
+            }
             (Kind::Handle, [session, answer], [memory, tag, packet, reply]) => bg_handle(
+                layout_pointer,
                 memory.pointer(),
                 memory.length,
-                numbers[0] as usize,
-                numbers[1] as usize,
                 session.pointer(),
                 tag.pointer(),
                 packet.pointer(),
@@ -294,6 +300,12 @@ pub fn call(call: &Call, place: Place) -> Outcome {
         if !lent.kept() {
             fault = Some(format!("wrote outside {name}"));
         }
+    }
+    if lent_layout.as_ref().map_or(false, |lent| !lent.kept()) {
+        fault = Some("wrote outside layout".to_string());
+    }
+    if lent_layout.map(Lent::content) != layout.map(|layout| layout.to_vec()) {
+        fault = Some("wrote to layout".to_string());
     }
     Outcome {
         returned,

@@ -38,12 +38,15 @@ impl Kind {
             }
             Kind::TakeLine => ("bg_take_line", &[], &[("reader", 4), ("body", 1)], &["line", "packet"]),
             Kind::SendFrame => ("bg_send_frame", &["k"], &[("sent", 2)], &["body", "out"]),
-            Kind::Configure => {
-                ("bg_configure", &["start", "size", "memory_len"], &[("session", 4)], &["tag"])
-            }
+            Kind::Configure => (
+                "bg_configure",
+                &["layout[0]", "layout[1]", "layout[2]", "layout[3]", "memory_len"],
+                &[("session", 4)],
+                &["tag"],
+            ),
             Kind::Handle => (
                 "bg_handle",
-                &["start", "size"],
+                &["layout[0]", "layout[1]", "layout[2]", "layout[3]"],
                 &[("session", 4), ("answer", 2)],
                 &["memory", "tag", "packet", "reply"],
             ),
@@ -63,11 +66,19 @@ impl Kind {
         Shape { name, numbers, words, buffers }
     }
 
+    /// Says whether the first four numbers are lent together, as the layout.
+    pub fn has_layout(self) -> bool {
+        matches!(self, Kind::Configure | Kind::Handle)
+    }
+
     /// Says whether a buffer always has the same length: the session's tag, and the collector's held bytes and line.
     pub fn is_fixed(self, buffer: usize) -> bool {
         matches!((self, buffer), (Kind::Configure, 0) | (Kind::Handle, 1) | (Kind::Collect, 0 | 2))
     }
 }
+
+/// The start and size of slot 0, then of the upload slot.
+pub type Layout = [u64; 4];
 
 /// A call with everything it is lent, in the order of its shape.
 #[derive(Clone, PartialEq, Eq)]
@@ -116,22 +127,20 @@ pub fn send_frame(body: Vec<u8>, k: u64, out: Vec<u8>, sent: [u32; 2]) -> Call {
     Call { kind: Kind::SendFrame, numbers: vec![k], words: sent.to_vec(), buffers: vec![body, out] }
 }
 
-/// Configures a slot.
-pub fn configure(start: u64, size: u64, memory: u64, session: [u32; 4], tag: [u8; 32]) -> Call {
+/// Configures the two slots.
+pub fn configure([a, b, c, d]: Layout, memory: u64, session: [u32; 4], tag: [u8; 32]) -> Call {
     Call {
         kind: Kind::Configure,
-        numbers: vec![start, size, memory],
+        numbers: vec![a, b, c, d, memory],
         words: session.to_vec(),
         buffers: vec![tag.to_vec()],
     }
 }
 
 /// Handles a request.
-#[allow(clippy::too_many_arguments)]
 pub fn handle(
+    layout: Layout,
     memory: Vec<u8>,
-    start: u64,
-    size: u64,
     session: [u32; 4],
     tag: [u8; 32],
     packet: Vec<u8>,
@@ -141,7 +150,7 @@ pub fn handle(
     let [a, b, c, d] = session;
     Call {
         kind: Kind::Handle,
-        numbers: vec![start, size],
+        numbers: layout.to_vec(),
         words: vec![a, b, c, d, answer[0], answer[1]],
         buffers: vec![memory, tag.to_vec(), packet, reply],
     }
@@ -195,6 +204,11 @@ pub fn most_data(out: u64, off: u64, length: u64, tag: u64) -> Call {
     Call { kind: Kind::MostData, numbers: vec![out, off, length, tag], words: vec![], buffers: vec![] }
 }
 
+/// The layout of a call that has one.
+pub fn layout_of(call: &Call) -> Layout {
+    call.numbers[..4].try_into().unwrap()
+}
+
 /// Makes a call of the second program.
 pub fn by_second(call: &Call) -> Outcome {
     let numbers = &call.numbers;
@@ -219,18 +233,16 @@ pub fn by_second(call: &Call) -> Outcome {
             port::send_frame(body, numbers[0] as usize, out, sent.try_into().unwrap())
         }
         (Kind::Configure, session, [tag]) => port::configure(
-            numbers[0] as usize,
-            numbers[1] as usize,
-            numbers[2] as usize,
+            &layout_of(call).map(|number| number as usize),
+            numbers[4] as usize,
             session.try_into().unwrap(),
             tag[..].as_mut().try_into().unwrap(),
         ),
         (Kind::Handle, words, [memory, tag, packet, reply]) => {
             let (session, answer) = words.split_at_mut(4);
             port::handle(
+                &layout_of(call).map(|number| number as usize),
                 memory,
-                numbers[0] as usize,
-                numbers[1] as usize,
                 session.try_into().unwrap(),
                 tag[..].as_mut().try_into().unwrap(),
                 packet,

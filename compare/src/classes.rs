@@ -1,61 +1,65 @@
-//! The classes of the collector's steps: a run has to meet each of them often.
+//! The classes of calls: a run has to meet each of them often.
 
-use crate::call::{Call, Outcome};
+mod reads;
+mod regions;
+mod steps;
 
-/// A step through a lump, as far as its class depends on it.
-struct Step {
-    count: u32,
-    skipping: bool,
-    lump: usize,
-    beyond: bool,
-    returned: u32,
-    length: u32,
-    skips: bool,
+use crate::call::{Call, Kind, Outcome};
+
+/// A class by its name, and what is of it.
+type Class<T> = (&'static str, fn(&T) -> bool);
+
+/// A group of classes; each has a number, its place among the classes of all groups.
+struct Group<T: 'static> {
+    name: &'static str,
+    first: usize,
+    classes: &'static [Class<T>],
 }
 
-impl Step {
-    /// Says whether the step came to the lump's end.
-    fn used_up(&self) -> bool {
-        self.returned == 0 && self.length == 0
+impl<T> Group<T> {
+    /// The number behind the last class of the group.
+    const fn end(&self) -> usize {
+        self.first + self.classes.len()
+    }
+
+    /// The numbers of the classes, and their names.
+    fn names(&self) -> impl Iterator<Item = (usize, Name)> {
+        let group = self.name;
+        (self.first..).zip(self.classes).map(move |(number, (name, _))| (number, (group, *name)))
+    }
+
+    /// Adds the numbers of the classes that something is of.
+    fn add(&self, thing: &T, list: &mut Vec<usize>) {
+        let numbered = (self.first..).zip(self.classes);
+        list.extend(numbered.filter(|(_, (_, has))| has(thing)).map(|(number, _)| number));
     }
 }
 
-/// A class by its name, and which steps are of it.
-type Class = (&'static str, fn(&Step) -> bool);
+/// A class by the name of its group, and its own.
+pub type Name = (&'static str, &'static str);
 
-/// All of them; a step may be of several.
-const CLASSES: [Class; 13] = [
-    ("refused 1 by its count", |step| step.returned == 1 && step.count > 126),
-    ("refused 1 by an 0A", |step| step.returned == 1 && step.count <= 126),
-    ("refused 1 before 12", |step| step.returned == 1 && step.lump > 256),
-    ("refused 12", |step| step.returned == 12),
-    ("refused 2", |step| step.returned == 2),
-    ("a line", |step| step.returned == 0 && step.length > 0),
-    ("a line of 127 bytes", |step| step.returned == 0 && step.length == 127),
-    ("used up", Step::used_up),
-    ("skipping begun", |step| step.used_up() && !step.skipping && step.skips),
-    ("used up while skipping", |step| step.used_up() && step.skipping),
-    ("a place beyond the end", |step| step.used_up() && step.beyond),
-    ("an empty lump", |step| step.used_up() && step.lump == 0),
-    ("a lump of 256 bytes", |step| matches!(step.returned, 0 | 2) && step.lump == 256),
-];
-
-/// The names of the classes.
-pub fn names() -> impl Iterator<Item = &'static str> {
-    CLASSES.iter().map(|(name, _)| *name)
+/// The names of all classes, by their numbers.
+pub fn all() -> Vec<Name> {
+    let configured = regions::CONFIGURED.names().chain(regions::LARGE.names());
+    let handled = regions::HANDLED.names().chain(regions::FIRST.names());
+    let images = reads::VALID.names().chain(reads::SPOILT.names());
+    let reads = reads::READS.names().chain(images).chain(reads::REPLIES.names());
+    let mut all: Vec<(usize, Name)> =
+        steps::STEPS.names().chain(configured).chain(handled).chain(reads).collect();
+    all.sort();
+    all.into_iter().map(|(_, name)| name).collect()
 }
 
-/// The names of the classes that a step is of.
-pub fn of(call: &Call, outcome: &Outcome) -> impl Iterator<Item = &'static str> {
-    let lump = call.buffers[1].len();
-    let step = Step {
-        count: call.words[0],
-        skipping: call.words[1] != 0,
-        lump,
-        beyond: call.numbers[0] > lump as u64,
-        returned: outcome.returned,
-        length: outcome.words[2],
-        skips: outcome.words[1] != 0,
-    };
-    CLASSES.iter().filter(move |(_, has)| has(&step)).map(|(name, _)| *name)
+/// Adds the numbers of the classes that a call is of.
+pub fn add(call: &Call, outcome: &Outcome, list: &mut Vec<usize>) {
+    match call.kind {
+        Kind::Collect => steps::add(call, outcome, list),
+        Kind::Configure => regions::add(call, outcome, list),
+        Kind::Handle => {
+            regions::add(call, outcome, list);
+            reads::add(call, outcome, list);
+        }
+        Kind::ReadReply => reads::add_reply(call, outcome, list),
+        _ => {}
+    }
 }

@@ -34,6 +34,9 @@ pub fn run(harness: &mut Harness, rng: &mut Rng) {
     let size = length + rng.below(40);
     let start = rng.below(40);
     let mut memory = rng.bytes(start + size + 5);
+    // Slot 0 is all before the upload slot, or all behind it.
+    let slot_0 = if rng.once_in(2) { [0, start] } else { [start + size, 5] };
+    let layout = [slot_0[0], slot_0[1], start, size].map(|number| number as u64);
     let outside = (memory[..start].to_vec(), memory[start + size..].to_vec());
     let (mut session, mut tag) = ([0; 4], [0; 32]);
     let own = if rng.once_in(2) { rng.tag().to_vec() } else { vec![] };
@@ -60,8 +63,7 @@ pub fn run(harness: &mut Harness, rng: &mut Rng) {
         let packet = over_the_line(harness, rng, &request);
         let reply = rng.bytes(64);
         let answer = [rng.word(), rng.word()];
-        let (from, slot) = (start as u64, size as u64);
-        let handled = harness.check(handle(memory, from, slot, session, tag, packet, reply, answer));
+        let handled = harness.check(handle(layout, memory, session, tag, packet, reply, answer));
         session = handled.words[..4].try_into().unwrap();
         tag = handled.buffers[1][..].try_into().unwrap();
         let body = handled.buffers[3][..handled.words[4] as usize].to_vec();

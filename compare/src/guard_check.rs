@@ -37,7 +37,7 @@ fn faults(touch: impl FnOnce()) -> bool {
 
 /// Touches the element next to some that are lent, which must be a fault, and the first or last of them, which must not.
 fn check<T: Element>(length: usize, place: Place, writes: bool) -> bool {
-    let content: Vec<T> = (0..length).map(T::guard).collect();
+    let content = vec![T::GUARDS[0]; length];
     let mut lent = Lent::new(&content, place, false);
     let first = lent.pointer();
     let (outside, inside) = match place {
@@ -48,7 +48,7 @@ fn check<T: Element>(length: usize, place: Place, writes: bool) -> bool {
     let touch = |at: isize| unsafe {
         let element = first.wrapping_offset(at);
         if writes {
-            element.write_volatile(T::guard(0));
+            element.write_volatile(T::GUARDS[0]);
         } else {
             element.read_volatile();
         }
@@ -62,12 +62,15 @@ pub fn run() {
     for place in [Place::BeforePage, Place::AfterPage] {
         for length in [0, 1, 5, 127, 1024, 16_384, 70_000] {
             for writes in [false, true] {
-                if !check::<u8>(length, place, writes) || !check::<u32>(length, place, writes) {
+                let right = check::<u8>(length, place, writes)
+                    && check::<u32>(length, place, writes)
+                    && check::<usize>(length, place, writes);
+                if !right {
                     let (what, side) = (if writes { "write" } else { "read" }, place);
                     println!("the guard does not work: a {what} next to {length} elements, {side:?}");
                     std::process::exit(1);
                 }
-                made += 2;
+                made += 3;
             }
         }
     }

@@ -2,7 +2,7 @@
 
 use crate::archive::Place;
 use crate::call::{compare, show, show_difference, Call, Kind, Outcome};
-use crate::classes;
+use crate::classes::{self, Name};
 use crate::shrink::shrink;
 use std::collections::BTreeMap;
 use std::sync::atomic::{AtomicPtr, AtomicU64, Ordering};
@@ -66,12 +66,12 @@ fn watched(call: &Call, places: &[Place]) -> Result<Outcome, Box<(Outcome, Outco
 /// An answer by the call's name, what it was, and perhaps its number.
 type Answer = (&'static str, &'static str, Option<u32>);
 
-/// What a call answered, for the counts: the classes of the collector's step, a refusal, or where a request was taken what
-/// was done or its rc.
-fn answers_of(call: &Call, outcome: &Outcome) -> Vec<Answer> {
+/// What a call answered, for the counts, beside its classes: a refusal, or where a request was taken what was done or its
+/// rc. Of the collector's steps the classes say it all.
+fn answer_of(call: &Call, outcome: &Outcome) -> Option<Answer> {
     let name = call.kind.shape().name;
     let answer = match (call.kind, outcome.returned) {
-        (Kind::Collect, _) => return classes::of(call, outcome).map(|class| (name, class, None)).collect(),
+        (Kind::Collect, _) => return None,
         (Kind::NextSequence, _) => (name, "answered", None),
         (Kind::MostData, 0) => (name, "none", None),
         (Kind::MostData, _) => (name, "some", None),
@@ -81,12 +81,13 @@ fn answers_of(call: &Call, outcome: &Outcome) -> Vec<Answer> {
             [0xA2, ..] if outcome.words[..4] == call.words[..4] => (name, "off told", None),
             [0xA2, ..] => (name, "data written", None),
             [0xA1, 0x62, _, _, rc] => (name, "rc", Some(rc as u32)),
+            [0xA1, 0x66, ..] => (name, "images listed", None),
             _ => (name, "echo", None),
         },
         (_, 0) => (name, "done", None),
         (_, number) => (name, "refused", Some(number)),
     };
-    vec![answer]
+    Some(answer)
 }
 
 /// The counts of a run, by kind of input.
@@ -95,6 +96,9 @@ pub struct Harness {
     seed: u64,
     counts: Vec<(&'static str, u64)>,
     answers: BTreeMap<Answer, u64>,
+    /// The classes by their numbers, each with how often it was met; and those of the call under way.
+    met: Vec<(Name, u64)>,
+    classes: Vec<usize>,
     kind: usize,
     began: Instant,
     shown: Instant,
@@ -113,6 +117,8 @@ impl Harness {
             seed,
             counts: Vec::new(),
             answers: BTreeMap::new(),
+            met: classes::all().into_iter().map(|name| (name, 0)).collect(),
+            classes: Vec::new(),
             kind: 0,
             began: now,
             shown: now,
@@ -145,8 +151,12 @@ impl Harness {
         match watched(&call, self.places) {
             Ok(outcome) => {
                 self.counts[self.kind].1 += 1;
-                for answer in answers_of(&call, &outcome) {
+                if let Some(answer) = answer_of(&call, &outcome) {
                     *self.answers.entry(answer).or_default() += 1;
+                }
+                classes::add(&call, &outcome, &mut self.classes);
+                for class in self.classes.drain(..) {
+                    self.met[class].1 += 1;
                 }
                 MADE.fetch_add(1, Ordering::Relaxed);
                 outcome
@@ -206,6 +216,9 @@ impl Harness {
             let number = number.map_or(String::new(), |number| format!(" {number}"));
             calls.entry(name).or_default().push(format!("{what}{number}: {count}"));
         }
+        for ((group, class), count) in &self.met {
+            calls.entry(group).or_default().push(format!("{class}: {count}"));
+        }
         for (name, answers) in calls {
             println!("  {name}: {}", answers.join(", "));
         }
@@ -217,10 +230,8 @@ impl Harness {
         );
     }
 
-    /// Names the classes of the collector's steps that were met less than so many times, each with how often it was.
-    pub fn rare(&self, floor: u64) -> Vec<(&'static str, u64)> {
-        let name = Kind::Collect.shape().name;
-        let met = |class| self.answers.get(&(name, class, None)).copied().unwrap_or(0);
-        classes::names().map(|class| (class, met(class))).filter(|(_, count)| *count < floor).collect()
+    /// Names the classes that were met less than so many times, each with how often it was.
+    pub fn rare(&self, floor: u64) -> Vec<(Name, u64)> {
+        self.met.iter().filter(|(_, count)| *count < floor).copied().collect()
     }
 }

@@ -7,6 +7,7 @@ mod classes;
 mod exchange;
 mod guard_check;
 mod harness;
+mod images;
 mod lines;
 mod lumps;
 mod maps;
@@ -36,14 +37,14 @@ const HELP: &str = "compare: compares the archive libport.a with the second prog
   --help         this text
 
 Prints progress, then how many comparisons of each kind were made and what they answered. On a difference it prints the
-smallest failing input that it finds, with both answers, and exits with status 1. Where it met a class of the collector's
-steps less than once in a thousand of N, or less than 1000 times where N is more than a million, it exits with status 3.";
+smallest failing input that it finds, with both answers, and exits with status 1. Where it met a class of calls less than
+once in a thousand of N, or less than 1000 times where N is more than a million, it exits with status 3.";
 
 /// Makes some comparisons of one kind of input.
 type Generator = fn(&mut Harness, &mut Rng);
 
 /// The generators of random inputs, each with how often it is used.
-const GENERATORS: [(usize, Generator); 11] = [
+const GENERATORS: [(usize, Generator); 14] = [
     (150, lumps::single),
     (1, lumps::stream),
     (200, lines::single),
@@ -52,6 +53,9 @@ const GENERATORS: [(usize, Generator); 11] = [
     (200, requests::single),
     (9, requests::history),
     (1, requests::configure),
+    (180, images::single),
+    (1, images::history),
+    (60, images::layouts),
     (80, writers::single),
     (110, replies::single),
     (1, exchange::run),
@@ -105,8 +109,8 @@ fn main() {
     }
     harness.summary();
     let rare = harness.rare((count / 1000).min(1000));
-    for (class, met) in &rare {
-        println!("bg_collect: {class}: met {met} times, which is too rarely");
+    for ((group, class), met) in &rare {
+        println!("{group}: {class}: met {met} times, which is too rarely");
     }
     if !rare.is_empty() {
         std::process::exit(3);

@@ -12,9 +12,9 @@ fn packet(group: u8, command: u8, payload: &[u8]) -> Vec<u8> {
     [&[2, 0, high, low, 0, group, 0x42, command], payload].concat()
 }
 
-/// A request on a memory of 40 bytes, slot 3 to 22, with a session.
+/// A request on a memory of 40 bytes, slot 0 from 25 to 29 and the upload slot from 3 to 22, with a session.
 fn on_slot(session: [u32; 4], tag: [u8; 32], packet: Vec<u8>) -> Call {
-    handle(vec![0x11; 40], 3, 20, session, tag, packet, vec![0xEE; 40], [77, 78])
+    handle([25, 5, 3, 20], vec![0x11; 40], session, tag, packet, vec![0xEE; 40], [77, 78])
 }
 
 /// An upload's packet, by the second program's writer.
@@ -71,7 +71,8 @@ fn edges(harness: &mut Harness) {
             && outcome.buffers[3][..14] == [1, 0, 0, 5, 0, 0, 0, 0, 0xA1, 0x62, 0x72, 0x63, 3, 0xEE]
     });
     let first = upload(&[9; 512], 0, 1000, &[]);
-    harness.expect(handle(vec![0; 1000], 0, 1000, IDLE, [0; 32], first, vec![0; 32], [5, 5]), |outcome| {
+    let layout = [0, 0, 0, 1000];
+    harness.expect(handle(layout, vec![0; 1000], IDLE, [0; 32], first, vec![0; 32], [5, 5]), |outcome| {
         map(outcome) == [0xA2, 0x62, 0x72, 0x63, 0x00, 0x63, 0x6F, 0x66, 0x66, 0x19, 0x02, 0x00]
     });
     harness.expect(write_upload(0, vec![1], 512, 0, vec![], vec![0; 30], 5), |outcome| {
@@ -239,6 +240,91 @@ fn collector(harness: &mut Harness) {
     });
 }
 
+/// The smallest image of a version.
+fn image([major, minor, low, high]: [u8; 4]) -> Vec<u8> {
+    let header = [
+        b"\x3D\xB8\xF3\x96\0\0\0\0\x20\0\0\0\0\0\0\0\0\0\0\0",
+        &[major, minor, low, high, 0, 0, 0, 0, 0, 0, 0, 0][..],
+    ];
+    [&header.concat()[..], b"\x07\x69\x28\0\x10\0\x20\0", &[9; 32]].concat()
+}
+
+/// What the list has for such an image in a slot.
+fn listed(slot: u8, version: &[u8]) -> Vec<u8> {
+    let text = [&[0x60 + version.len() as u8], version].concat();
+    [b"\xA3\x64slot", &[slot][..], b"\x67version", &text, b"\x64hash\x58\x20", &[9; 32]].concat()
+}
+
+/// The image list: its literal bytes, its refusals and their order.
+fn images(harness: &mut Harness) {
+    harness.kind("the image list: both sides of each edge");
+    let ask = |layout, memory: &[u8], payload: &[u8], room| {
+        let packet = [&[0, 0, 0, payload.len() as u8, 0, 1, 0x42, 0], payload].concat();
+        handle(layout, memory.to_vec(), [1, 1, 1, 1], [8; 32], packet, vec![0xEE; room], [77, 78])
+    };
+    let longest = image([255; 4]);
+    let both = [&longest[..], &longest].concat();
+    let (first, second) = (listed(0, b"255.255.65535"), listed(1, b"255.255.65535"));
+    let no_images = &b"\xA1\x66images\x80"[..];
+    let touching = [0, 72, 72, 72];
+    // Regions, room and payload, and the map of the reply.
+    let answers: [(Layout, usize, &[u8], &[u8]); 12] = [
+        (touching, 153, b"", &[&b"\xA1\x66images\x82"[..], &first, &second].concat()),
+        ([72, 72, 0, 72], 153, b"\xA0", &[&b"\xA1\x66images\x82"[..], &first, &second].concat()),
+        ([0, 71, 72, 72], 85, b"", &[&b"\xA1\x66images\x81"[..], &second].concat()),
+        ([0, 72, 72, 71], 85, b"\xA1\x61x\xF6", &[&b"\xA1\x66images\x81"[..], &first].concat()),
+        ([0, 71, 72, 71], 32, b"", no_images),
+        ([100, 0, 72, 71], 32, b"", no_images),
+        ([144, 0, 72, 71], 32, b"", no_images),
+        (touching, 152, b"", &rc(7)),
+        (touching, 32, b"", &rc(7)),
+        (touching, 32, b"\xA1", &rc(3)),
+        (touching, 153, b"\xA1\x61x\x80", &rc(3)),
+        ([0, 71, 72, 71], 32, b"\xBF\xFF", &rc(3)),
+    ];
+    for (layout, room, payload, answer) in answers {
+        harness.expect(ask(layout, &both, payload, room), |outcome| {
+            outcome.returned == 0
+                && outcome.words == [1, 1, 1, 1, 8 + answer.len() as u32, 0]
+                && map(outcome) == answer
+                && outcome.buffers[0] == both
+                && outcome.buffers[3][8 + answer.len()..].iter().all(|byte| *byte == 0xEE)
+        });
+    }
+    for layout in [
+        [0, 73, 72, 72],
+        [71, 73, 0, 72],
+        [80, 1, 72, 72],
+        [0, 144, 72, 72],
+        [73, 72, 0, 72],
+        [145, 0, 0, 72],
+        [u64::MAX, 1, 0, 72],
+        [u64::MAX - 71, 144, 72, 72],
+    ] {
+        for (room, payload) in [(31, &b"\xA1"[..]), (32, b"\xA1"), (153, b"")] {
+            harness.expect(ask(layout, &both, payload, room), |outcome| {
+                outcome.returned == 1
+                    && outcome.words == [1, 1, 1, 1, 77, 78]
+                    && outcome.buffers[0] == both
+                    && outcome.buffers[3].iter().all(|byte| *byte == 0xEE)
+            });
+        }
+        harness.expect(configure(layout, 144, [7; 4], [7; 32]), |outcome| {
+            outcome.returned == 1 && outcome.words == [7; 4] && outcome.buffers[0] == [7; 32]
+        });
+    }
+    // Slot 0 may be larger than the largest upload slot, and an image in it as large.
+    let mut memory = [image([1, 2, 3, 0]), vec![255; 1_048_577]].concat();
+    memory.copy_within(32..72, 1_048_577 - 40);
+    memory[12..16].copy_from_slice(&(1_048_577u32 - 72).to_le_bytes());
+    let answer = [&b"\xA1\x66images\x81"[..], &listed(0, b"1.2.3")].concat();
+    harness.expect(ask([0, 1_048_577, 1_048_577, 72], &memory, b"", 77), |outcome| map(outcome) == answer);
+    harness.expect(ask([0, 1_048_576, 1_048_577, 72], &memory, b"", 77), |outcome| map(outcome) == no_images);
+    // The host's reader knows no array.
+    let reply = [&[1, 0, 0, 9, 0, 1, 0x42, 0], no_images].concat();
+    harness.expect(read_reply(reply, [5; 12]), |outcome| outcome.returned == 10 && outcome.words == [5; 12]);
+}
+
 /// The published vectors of CRC-16/XMODEM, RFC 4648 and RFC 8949, as far as calls can show them.
 fn vectors(harness: &mut Harness) {
     harness.kind("published vectors");
@@ -361,6 +447,7 @@ pub fn run(harness: &mut Harness) {
     edges(harness);
     errors(harness);
     collector(harness);
+    images(harness);
     vectors(harness);
     harness.kind("next sequence, every number");
     for sequence in 0..=255u8 {

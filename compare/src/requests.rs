@@ -1,21 +1,21 @@
 //! Requests for the controller: single ones for any record, and histories on one memory.
 
-use crate::call::{configure as configure_call, handle};
+use crate::call::{configure as configure_call, handle, Layout, Outcome};
 use crate::harness::Harness;
 use crate::maps::{packet, payload, Item, Pair};
 use crate::rng::Rng;
 
 /// What a controller is lent from call to call.
-struct Device {
-    memory: Vec<u8>,
-    start: u64,
-    size: u64,
-    session: [u32; 4],
-    tag: [u8; 32],
+pub struct Device {
+    pub layout: Layout,
+    pub memory: Vec<u8>,
+    pub session: [u32; 4],
+    pub tag: [u8; 32],
 }
 
 impl Device {
-    /// A controller with a slot somewhere in a small memory, now and then a larger one; its session closed.
+    /// A controller with an upload slot somewhere in a small memory, now and then a larger one, and a slot 0 of any size
+    /// before or behind it; its session closed.
     fn new(rng: &mut Rng) -> Device {
         let size = match rng.below(12) {
             0 => rng.range(1, 3),
@@ -27,12 +27,22 @@ impl Device {
         let start = if rng.once_in(3) { 0 } else { rng.below(30) };
         let after = if rng.once_in(3) { 0 } else { rng.below(30) };
         let memory = rng.bytes(start + size + after);
-        Device { memory, start: start as u64, size: size as u64, session: [0; 4], tag: [0; 32] }
+        let (first, room) = if rng.once_in(2) { (0, start) } else { (start + size, after) };
+        let skipped = if rng.once_in(2) { 0 } else { rng.below(room + 1) };
+        let slot_0 = if rng.once_in(2) { room - skipped } else { rng.below(room - skipped + 1) };
+        let layout = [first + skipped, slot_0, start, size].map(|number| number as u64);
+        Device { layout, memory, session: [0; 4], tag: [0; 32] }
+    }
+
+    /// The upload slot's size.
+    fn size(&self) -> u64 {
+        self.layout[3]
     }
 
     /// A session record that is possible in the slot, in normal form or not.
-    fn open(&mut self, rng: &mut Rng) {
-        let length = if rng.once_in(2) { self.size as u32 } else { rng.range(1, self.size as usize) as u32 };
+    pub fn open(&mut self, rng: &mut Rng) {
+        let size = self.size() as usize;
+        let length = if rng.once_in(2) { size as u32 } else { rng.range(1, size) as u32 };
         let place = if rng.once_in(5) { length } else { rng.range(1, length as usize) as u32 };
         let tagged = rng.below(2) as u32;
         self.session = [1, length, place, tagged];
@@ -47,7 +57,7 @@ impl Device {
     }
 
     /// A closed session record, in normal form or with leftovers.
-    fn close(&mut self, rng: &mut Rng) {
+    pub fn close(&mut self, rng: &mut Rng) {
         self.session = [0; 4];
         self.tag = [0; 32];
         if rng.once_in(4) {
@@ -56,29 +66,34 @@ impl Device {
         }
     }
 
-    /// Compares one packet on this controller, and goes on with what it leaves.
-    fn ask(&mut self, harness: &mut Harness, rng: &mut Rng, packet: Vec<u8>) {
-        let room = match rng.below(16) {
-            0 => rng.below(32),
-            1..=6 => 32,
-            7..=10 => rng.range(32, 60),
-            _ => rng.range(32, 400),
-        };
+    /// Compares one packet on this controller with a reply buffer of this length, and goes on with what it leaves.
+    pub fn ask(&mut self, harness: &mut Harness, rng: &mut Rng, packet: Vec<u8>, room: usize) -> Outcome {
         let reply = rng.bytes(room);
         let memory = std::mem::take(&mut self.memory);
         let answer = [rng.word(), rng.word()];
-        let call = handle(memory, self.start, self.size, self.session, self.tag, packet, reply, answer);
+        let call = handle(self.layout, memory, self.session, self.tag, packet, reply, answer);
         let mut outcome = harness.check(call);
         self.session = outcome.words[..4].try_into().unwrap();
         self.tag = outcome.buffers[1][..].try_into().unwrap();
-        self.memory = outcome.buffers.swap_remove(0);
+        self.memory = std::mem::take(&mut outcome.buffers[0]);
+        outcome
+    }
+}
+
+/// A length for a reply buffer: mostly the shortest or little more, now and then too short.
+fn room(rng: &mut Rng) -> usize {
+    match rng.below(16) {
+        0 => rng.below(32),
+        1..=6 => 32,
+        7..=10 => rng.range(32, 60),
+        _ => rng.range(32, 400),
     }
 }
 
 /// A number for "off" or "len": near to the session's or the slot's, or any.
 fn near(rng: &mut Rng, device: &Device) -> u64 {
     let [_, length, place, _] = device.session;
-    let base = rng.pick(&[0, place as u64, place as u64, length as u64, device.size]);
+    let base = rng.pick(&[0, place as u64, place as u64, length as u64, device.size()]);
     match rng.below(8) {
         0 => base.wrapping_add(1),
         1 => base.saturating_sub(1),
@@ -98,7 +113,7 @@ fn data(rng: &mut Rng, device: &Device, end: u64, from: u64) -> Vec<u8> {
         4 => rng.below(4),
         5 => rng.pick(&[23, 24, 255, 256]),
         6 => rng.below(left + 2),
-        _ => rng.range(1, (device.size as usize).min(60)),
+        _ => rng.range(1, (device.size() as usize).min(60)),
     };
     rng.bytes(length)
 }
@@ -120,10 +135,10 @@ fn upload(rng: &mut Rng, device: &Device) -> Vec<Pair> {
         let same = open != 0 && rng.once_in(2);
         let len = match rng.below(6) {
             0 => near(rng, device),
-            1 => device.size,
-            2 => device.size + 1,
+            1 => device.size(),
+            2 => device.size() + 1,
             _ if same => length as u64,
-            _ => rng.range(1, device.size as usize) as u64,
+            _ => rng.range(1, device.size() as usize) as u64,
         };
         pairs.push((b"data".to_vec(), Item::Bytes(data(rng, device, len, 0))));
         if !rng.once_in(30) {
@@ -169,7 +184,8 @@ fn request(rng: &mut Rng, device: &Device) -> Vec<u8> {
             let pairs = if rng.once_in(2) { vec![] } else { vec![(b"slot".to_vec(), Item::Unsigned(slot))] };
             (2, 1, 5, pairs)
         }
-        6 => (rng.pick(&[0, 2]), rng.below(3) as u16, rng.below(7) as u8, upload(rng, device)),
+        6 => (0, 1, 0, vec![]),
+        7 => (rng.pick(&[0, 2]), rng.below(3) as u16, rng.below(7) as u8, upload(rng, device)),
         _ => (2, 1, 1, upload(rng, device)),
     };
     if rng.once_in(40) {
@@ -203,14 +219,12 @@ pub fn single(harness: &mut Harness, rng: &mut Rng) {
     }
     let packet = request(rng, &device);
     if rng.once_in(12) {
+        let [_, _, start, size] = device.layout;
         match rng.below(8) {
-            0 => device.session[1] = rng.pick(&[0, device.size as u32 + 1, u32::MAX]),
+            0 => device.session[1] = rng.pick(&[0, size as u32 + 1, u32::MAX]),
             1 => device.session[2] = rng.pick(&[0, device.session[1].wrapping_add(1), u32::MAX]),
-            2 => {
-                device.size =
-                    rng.pick(&[0, device.size + 1, 1_048_577, u64::MAX, device.start.wrapping_neg()])
-            }
-            3 => device.start = rng.pick(&[device.start + 1, u64::MAX, device.size.wrapping_neg()]),
+            2 => device.layout[3] = rng.pick(&[0, size + 1, 1_048_577, u64::MAX, start.wrapping_neg()]),
+            3 => device.layout[2] = rng.pick(&[start + 1, u64::MAX, size.wrapping_neg()]),
             4 => device.memory.truncate(rng.below(device.memory.len() + 1)),
             5 => device.memory.push(9),
             6 => {
@@ -220,7 +234,8 @@ pub fn single(harness: &mut Harness, rng: &mut Rng) {
             _ => device.memory.clear(),
         }
     }
-    device.ask(harness, rng, packet);
+    let room = room(rng);
+    device.ask(harness, rng, packet, room);
 }
 
 /// A history of requests on one memory: chunks, repeats, resumes, restarts, erases, resets, damage.
@@ -228,30 +243,25 @@ pub fn history(harness: &mut Harness, rng: &mut Rng) {
     harness.kind("requests: histories on one memory");
     let mut device = Device::new(rng);
     let mut sent: Vec<Vec<u8>> = Vec::new();
-    let steps = if device.size > 100_000 { 4 } else { rng.range(4, 24) };
+    let steps = if device.size() > 100_000 { 4 } else { rng.range(4, 24) };
     for _ in 0..steps {
         let packet = if !sent.is_empty() && rng.once_in(5) { rng.pick(&sent) } else { request(rng, &device) };
         if rng.once_in(60) {
             device.open(rng);
         }
         if rng.once_in(60) {
-            let call = configure_call(
-                device.start,
-                device.size,
-                device.memory.len() as u64,
-                device.session,
-                device.tag,
-            );
-            let outcome = harness.check(call);
+            let memory = device.memory.len() as u64;
+            let outcome = harness.check(configure_call(device.layout, memory, device.session, device.tag));
             device.session = outcome.words[..].try_into().unwrap();
             device.tag = outcome.buffers[0][..].try_into().unwrap();
         }
         sent.push(packet.clone());
-        device.ask(harness, rng, packet);
+        let room = room(rng);
+        device.ask(harness, rng, packet, room);
     }
 }
 
-/// A slot region, possible or not.
+/// An upload slot, possible or not, and an empty slot 0.
 pub fn configure(harness: &mut Harness, rng: &mut Rng) {
     harness.kind("configurations");
     for _ in 0..8 {
@@ -272,6 +282,6 @@ pub fn configure(harness: &mut Harness, rng: &mut Rng) {
         };
         let session = [rng.word(), rng.word(), rng.word(), rng.word()];
         let tag = rng.tag();
-        harness.check(configure_call(start, size, memory, session, tag));
+        harness.check(configure_call([0, 0, start, size], memory, session, tag));
     }
 }

@@ -1,6 +1,6 @@
 //! Makes a failing call smaller for as long as it still fails.
 
-use crate::call::{Call, Kind};
+use crate::call::{layout_of, Call, Kind};
 use second::cbor::{self, Value};
 use second::{base64, crc, sender};
 use std::time::{Duration, Instant};
@@ -252,6 +252,35 @@ fn together(call: &Call) -> Vec<Call> {
     list
 }
 
+/// A request on a memory that ends with the later slot, or has nothing but slot 0 and then the upload slot, also with one of
+/// them smaller.
+fn with_slots(call: &Call) -> Vec<Call> {
+    let [start_0, size_0, start, size] = layout_of(call).map(|number| number as usize);
+    let memory = &call.buffers[0];
+    let part = |start: usize, size: usize| memory.get(start..start.checked_add(size)?);
+    let (slot_0, upload) = match (part(start_0, size_0), part(start, size)) {
+        (Some(slot_0), Some(upload)) => (slot_0, upload),
+        _ => return Vec::new(),
+    };
+    let mut shorter = call.clone();
+    shorter.buffers[0].truncate((start_0 + size_0).max(start + size));
+    let mut list = vec![shorter];
+    for (size_0, size) in [
+        (size_0, size),
+        (0, size),
+        (size_0 / 2, size),
+        (size_0.saturating_sub(1), size),
+        (size_0, size / 2),
+        (size_0, size.saturating_sub(1)),
+    ] {
+        let mut smaller = call.clone();
+        smaller.numbers = [0, size_0, size_0, size].map(|number| number as u64).to_vec();
+        smaller.buffers[0] = [&slot_0[..size_0], &upload[..size]].concat();
+        list.push(smaller);
+    }
+    list
+}
+
 /// A step at a lump's start, through as much of the lump as was left.
 fn from_the_start(call: &Call) -> Vec<Call> {
     let mut smaller = call.clone();
@@ -266,7 +295,7 @@ fn candidates(call: &Call) -> Vec<Call> {
     let mut list = match call.kind {
         Kind::Collect => from_the_start(call),
         Kind::TakeLine => completing(call),
-        Kind::Handle => together(call),
+        Kind::Handle => [together(call), with_slots(call)].concat(),
         _ => Vec::new(),
     };
     let mut with_buffer = |i: usize, buffer: Vec<u8>| {
@@ -286,19 +315,6 @@ fn candidates(call: &Call) -> Vec<Call> {
             cuts(buffer).into_iter().for_each(|cut| with_buffer(i, cut));
         }
         plainer(buffer).into_iter().for_each(|plain| with_buffer(i, plain));
-    }
-    if call.kind == Kind::Handle {
-        // A smaller memory with its slot.
-        let (start, size, memory) = (call.numbers[0] as usize, call.numbers[1] as usize, &call.buffers[0]);
-        if start.checked_add(size).map_or(false, |end| end <= memory.len()) {
-            with_buffer(0, memory[..start + size].to_vec());
-            for (start, size) in [(0, size), (0, size / 2), (0, size - size.min(1)), (start / 2, size)] {
-                let mut smaller = call.clone();
-                smaller.numbers = vec![start as u64, size as u64];
-                smaller.buffers[0] = memory[..start + size].to_vec();
-                list.push(smaller);
-            }
-        }
     }
     for (i, number) in call.numbers.iter().enumerate() {
         for number in smaller(*number) {

@@ -176,9 +176,8 @@ fn packet(op: u8, group: u8, command: u8, payload: &[u8]) -> Vec<u8> {
 fn ask(harness: &mut Harness, rng: &mut Rng, packet: Vec<u8>) {
     let tag = [9; 32];
     harness.check(handle(
+        [0, 5, 5, 30],
         rng.bytes(40),
-        5,
-        30,
         [1, 20, 4, 1],
         tag,
         packet,
@@ -263,9 +262,16 @@ fn maps(harness: &mut Harness, rng: &mut Rng) {
                     harness.check(read_reply(packet, [7; 12]));
                 } else {
                     for room in [32, length - 1, length, length + 3] {
-                        let call =
-                            handle(vec![0; 4], 0, 4, [0; 4], [0; 32], packet.clone(), vec![0; room], [5, 5]);
-                        harness.check(call);
+                        let (packet, reply) = (packet.clone(), vec![0; room]);
+                        harness.check(handle(
+                            [0, 0, 0, 4],
+                            vec![0; 4],
+                            [0; 4],
+                            [0; 32],
+                            packet,
+                            reply,
+                            [5, 5],
+                        ));
                     }
                 }
             }
@@ -310,7 +316,8 @@ fn sessions(harness: &mut Harness, rng: &mut Rng) {
                                 let (tag, reply) = (rng.pick(&tags), rng.bytes(33));
                                 let memory = rng.bytes(6);
                                 let packet = packet(2, 1, 1, &payload);
-                                harness.check(handle(memory, 1, size, session, tag, packet, reply, [5, 5]));
+                                let layout = [0, 1, 1, size];
+                                harness.check(handle(layout, memory, session, tag, packet, reply, [5, 5]));
                             }
                         }
                     }
@@ -322,20 +329,13 @@ fn sessions(harness: &mut Harness, rng: &mut Rng) {
     for memory in 0..=6u64 {
         for start in (0..=7).chain([u64::MAX - 1, u64::MAX]) {
             for size in (0..=7).chain([1_048_576, 1_048_577, u64::MAX - 2, u64::MAX]) {
-                harness.check(configure(start, size, memory, [3; 4], [3; 32]));
+                let layout = [0, 0, start, size];
+                harness.check(configure(layout, memory, [3; 4], [3; 32]));
                 for room in [31, 32] {
                     let erase = packet(2, 1, 5, &[]);
                     let memory = rng.bytes(memory as usize);
-                    harness.check(handle(
-                        memory,
-                        start,
-                        size,
-                        [0; 4],
-                        [0; 32],
-                        erase,
-                        rng.bytes(room),
-                        [5, 5],
-                    ));
+                    let reply = rng.bytes(room);
+                    harness.check(handle(layout, memory, [0; 4], [0; 32], erase, reply, [5, 5]));
                 }
             }
         }
@@ -349,7 +349,8 @@ fn sessions(harness: &mut Harness, rng: &mut Rng) {
         (1_048_576, packet(2, 1, 1, b"\xA3\x64data\x41\x07\x63off\x00\x63len\x1A\x00\x10\x00\x00")),
         (1_048_576, packet(2, 1, 1, b"\xA2\x64data\x41\x07\x63off\x01")),
     ] {
-        let outcome = harness.check(handle(memory, 3, size, session, [0; 32], packet, vec![0; 32], [5, 5]));
+        let layout = [0, 3, 3, size];
+        let outcome = harness.check(handle(layout, memory, session, [0; 32], packet, vec![0; 32], [5, 5]));
         session = outcome.words[..4].try_into().unwrap();
         memory = outcome.buffers.into_iter().next().unwrap();
     }
@@ -360,10 +361,66 @@ fn sessions(harness: &mut Harness, rng: &mut Rng) {
             [b"\xA2\x64data", &[0x40 + data][..], &vec![7; data as usize], b"\x63off\x1A\x00\x0F\xFF\xFE"]
                 .concat();
         let packet = packet(2, 1, 1, &payload);
-        let outcome =
-            harness.check(handle(memory, 3, 1_048_576, session, [0; 32], packet, vec![0; 32], [5, 5]));
+        let layout = [0, 3, 3, 1_048_576];
+        let outcome = harness.check(handle(layout, memory, session, [0; 32], packet, vec![0; 32], [5, 5]));
         session = outcome.words[..4].try_into().unwrap();
         memory = outcome.buffers.into_iter().next().unwrap();
+    }
+}
+
+/// A state read of two regions that touch, slot 0 first, with a reply buffer of this length.
+fn list(harness: &mut Harness, rng: &mut Rng, slot_0: &[u8], upload: &[u8], room: usize) {
+    let (size_0, size) = (slot_0.len() as u64, upload.len() as u64);
+    let layout = [0, size_0, size_0, size];
+    let memory = [slot_0, upload].concat();
+    let answer = [rng.word(), rng.word()];
+    harness.check(handle(layout, memory, [0; 4], [0; 32], packet(0, 1, 0, &[]), rng.bytes(room), answer));
+}
+
+/// Every byte, cut, version and reply buffer of small images, and every small layout.
+fn images(harness: &mut Harness, rng: &mut Rng) {
+    harness.kind("images: every byte, cut, version and reply buffer");
+    let image = [
+        b"\x3D\xB8\xF3\x96\0\0\0\0\x21\0\0\0\x01\0\0\0\0\0\0\0\x01\x02\x03\0\0\0\0\0\0\0\0\0\0\x77",
+        &b"\x07\x69\x2D\0\x11\0\x01\0\x10\x10\0\x20\0"[..],
+        &[9; 32],
+    ]
+    .concat();
+    for at in 0..image.len() {
+        for byte in 0..=255 {
+            let mut changed = image.clone();
+            changed[at] = byte;
+            let slots = if rng.once_in(2) { [&changed[..], &[255]] } else { [&image, &changed[..]] };
+            list(harness, rng, slots[0], slots[1], 160);
+        }
+    }
+    for length in 1..=image.len() {
+        list(harness, rng, &image[..length], &image, 160);
+        list(harness, rng, &image, &image[..length], 160);
+    }
+    for version in 0..=0xFFFFu16 {
+        let mut changed = image.clone();
+        changed[22..24].copy_from_slice(&version.to_le_bytes());
+        changed[20..22].copy_from_slice(&[version as u8, (version >> 8) as u8]);
+        list(harness, rng, &changed, &[255], 160);
+    }
+    for room in 0..=160 {
+        let mut longest = image.clone();
+        longest[20..24].fill(255);
+        for slots in [[&longest[..], &longest], [&longest, &image], [&image, &[255]], [&[255], &[255]]] {
+            list(harness, rng, slots[0], slots[1], room);
+        }
+    }
+    harness.kind("layouts: every small one");
+    for memory in 0..=4 {
+        let places = [0, 1, 2, 3, 4, 5, u64::MAX];
+        for number in 0..7usize.pow(4) {
+            let layout = [1, 7, 49, 343].map(|unit| places[number / unit % 7]);
+            harness.check(configure(layout, memory, [3; 4], [3; 32]));
+            let (memory, reply) = (rng.bytes(memory as usize), rng.bytes(32));
+            let packet = packet(0, 1, 0, &[0xA0]);
+            harness.check(handle(layout, memory, [0; 4], [0; 32], packet, reply, [5, 5]));
+        }
     }
 }
 
@@ -424,6 +481,7 @@ pub fn run(harness: &mut Harness, rng: &mut Rng) {
     sends(harness, rng);
     maps(harness, rng);
     sessions(harness, rng);
+    images(harness, rng);
     writers(harness, rng);
     most(harness);
 }

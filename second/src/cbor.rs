@@ -150,6 +150,7 @@ impl Map<'_> {
 pub const UNSIGNED: u8 = 0;
 pub const BYTES: u8 = 2;
 pub const TEXT: u8 = 3;
+pub const ARRAY: u8 = 4;
 pub const MAP: u8 = 5;
 
 /// Writes a head, the shortest for its number.

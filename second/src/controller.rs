@@ -1,9 +1,11 @@
 //! The controller's end: takes one request, writes the slot and builds the reply.
 
 use crate::cbor::{self, Malformed, Map};
+use crate::images;
 use crate::packet::{self, Header, HEADER};
 use crate::refusal::Refusal;
 use crate::slot::{self, Decision, Session, Upload};
+use std::ops::Range;
 
 /// The shortest reply buffer.
 pub const REPLY_ROOM: usize = 32;
@@ -13,6 +15,7 @@ pub const REPLY_ROOM: usize = 32;
 enum Command {
     Echo,
     Reset,
+    State,
     Upload,
     Erase,
 }
@@ -22,6 +25,7 @@ fn command(header: &Header) -> Option<Command> {
     match (header.op, header.group, header.command) {
         (0 | 2, 0, 0) => Some(Command::Echo),
         (2, 0, 5) => Some(Command::Reset),
+        (0, 1, 0) => Some(Command::State),
         (2, 1, 1) => Some(Command::Upload),
         (2, 1, 5) => Some(Command::Erase),
         _ => None,
@@ -88,11 +92,21 @@ impl Done {
     }
 }
 
-/// Does a known command on the slot; malformed where the map is not as the command has it.
+/// The map where the reply with it fits its buffer, else {"rc": 7}.
+fn if_it_fits(map: Vec<u8>, reply_room: usize) -> Vec<u8> {
+    if HEADER + map.len() <= reply_room {
+        map
+    } else {
+        rc(7)
+    }
+}
+
+/// Does a known command on slot 0 and the upload slot; malformed where the map is not as the command has it.
 fn perform(
     command: Command,
     payload: &[u8],
-    slot: &mut [u8],
+    memory: &mut [u8],
+    [slot_0, upload_slot]: [Range<usize>; 2],
     session: Option<Session>,
     reply_room: usize,
 ) -> Result<Done, Malformed> {
@@ -100,20 +114,23 @@ fn perform(
     match command {
         Command::Echo => {
             let place = map.text("d")?.ok_or(Malformed)?;
-            let reply = echo(&payload[place]);
-            let fits = HEADER + reply.len() <= reply_room;
-            Ok(Done::only(if fits { reply } else { rc(7) }))
+            Ok(Done::only(if_it_fits(echo(&payload[place]), reply_room)))
         }
         Command::Reset => Ok(Done { map: rc(0), session: After::Closed, reset: true }),
+        Command::State => {
+            let list = images::list([&memory[slot_0], &memory[upload_slot]]);
+            Ok(Done::only(if_it_fits(list, reply_room)))
+        }
         Command::Erase => {
             if map.unsigned("slot")?.map_or(false, |slot| slot != 1) {
                 return Ok(Done::only(rc(3)));
             }
-            slot.fill(255);
+            memory[upload_slot].fill(255);
             Ok(Done { map: rc(0), session: After::Closed, reset: false })
         }
         Command::Upload => {
             let upload = upload_of(&map, payload)?;
+            let slot = &mut memory[upload_slot];
             let data = upload.data.unwrap_or(&[]);
             Ok(match slot::decide(&upload, slot.len(), session) {
                 Decision::Rc(number) => Done::only(rc(number)),
@@ -136,18 +153,15 @@ fn perform(
 /// Takes one request packet; gives the reply's length and whether a reset is asked, or refuses 1, 11 or 10.
 #[allow(clippy::too_many_arguments)]
 pub fn handle(
+    layout: &[usize; 4],
     memory: &mut [u8],
-    start: usize,
-    size: usize,
     record: &mut [u32; 4],
     tag: &mut [u8; 32],
     packet: &[u8],
     reply: &mut [u8],
 ) -> Result<(usize, bool), Refusal> {
-    if !slot::possible_region(start, size, memory.len()) {
-        return Err(Refusal::Impossible);
-    }
-    let session = slot::session(record, tag, size)?;
+    let regions = slot::regions(layout, memory.len())?;
+    let session = slot::session(record, tag, regions[1].len())?;
     if reply.len() < REPLY_ROOM {
         return Err(Refusal::ReplyRoom);
     }
@@ -157,11 +171,8 @@ pub fn handle(
     }
     let done = match command(&header) {
         None => Done::only(rc(8)),
-        Some(command) => {
-            let slot = &mut memory[start..start + size];
-            perform(command, &packet[HEADER..], slot, session, reply.len())
-                .unwrap_or_else(|Malformed| Done::only(rc(3)))
-        }
+        Some(command) => perform(command, &packet[HEADER..], memory, regions, session, reply.len())
+            .unwrap_or_else(|Malformed| Done::only(rc(3))),
     };
     match done.session {
         After::Same => {}

@@ -9,6 +9,7 @@ pub mod collector;
 pub mod controller;
 pub mod crc;
 pub mod host;
+pub mod images;
 pub mod packet;
 pub mod port;
 pub mod reader;

@@ -55,28 +55,23 @@ pub fn send_frame(body: &[u8], k: usize, out: &mut [u8], sent: &mut [u32; 2]) ->
     number(sender::send_frame(body, k, out), |(length, count)| *sent = [length as u32, count as u32])
 }
 
-/// Fixes a slot and closes the session, or refuses 1.
-pub fn configure(start: usize, size: usize, memory: usize, record: &mut [u32; 4], tag: &mut [u8; 32]) -> u32 {
-    if !slot::possible_region(start, size, memory) {
-        return Refusal::Impossible.number();
-    }
-    slot::store(None, record, tag);
-    0
+/// Fixes the two slots, the start and size of slot 0 and then of the upload slot, and closes the session, or refuses 1.
+pub fn configure(layout: &[usize; 4], memory: usize, record: &mut [u32; 4], tag: &mut [u8; 32]) -> u32 {
+    number(slot::regions(layout, memory), |_| slot::store(None, record, tag))
 }
 
 /// Takes one request; `answer` is the reply's length, and 1 where a reset is asked.
 #[allow(clippy::too_many_arguments)]
 pub fn handle(
+    layout: &[usize; 4],
     memory: &mut [u8],
-    start: usize,
-    size: usize,
     record: &mut [u32; 4],
     tag: &mut [u8; 32],
     packet: &[u8],
     reply: &mut [u8],
     answer: &mut [u32; 2],
 ) -> u32 {
-    let handled = controller::handle(memory, start, size, record, tag, packet, reply);
+    let handled = controller::handle(layout, memory, record, tag, packet, reply);
     number(handled, |(length, reset)| *answer = [length as u32, reset as u32])
 }
 

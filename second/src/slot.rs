@@ -1,8 +1,9 @@
-//! The slot, the upload session, and the upload rules.
+//! The two slots, the upload session, and the upload rules.
 
 use crate::refusal::Refusal;
+use std::ops::Range;
 
-/// The largest slot.
+/// The largest upload slot.
 pub const LARGEST: usize = 1_048_576;
 /// The largest number that "off" and "len" may have.
 pub const LARGEST_NUMBER: u64 = 4_294_967_295;
@@ -37,9 +38,23 @@ pub enum Decision {
     Start(Session),
 }
 
-/// Says whether a slot is 1 to 1,048,576 bytes and ends inside the memory.
-pub fn possible_region(start: usize, size: usize, memory: usize) -> bool {
-    (1..=LARGEST).contains(&size) && start.checked_add(size).map_or(false, |end| end <= memory)
+/// The places of a region that lies in the memory; nothing where it does not.
+fn region(start: usize, size: usize, memory: usize) -> Option<Range<usize>> {
+    let end = start.checked_add(size)?;
+    (end <= memory).then_some(start..end)
+}
+
+/// The places of slot 0 and of the upload slot, from the start and size of each. Refusal 1 where one does not lie in the
+/// memory, the upload slot is not 1 to 1,048,576 bytes, or a byte is in both.
+pub fn regions(layout: &[usize; 4], memory: usize) -> Result<[Range<usize>; 2], Refusal> {
+    let [start_0, size_0, start, size] = *layout;
+    let slot_0 = region(start_0, size_0, memory).ok_or(Refusal::Impossible)?;
+    let upload = region(start, size, memory).ok_or(Refusal::Impossible)?;
+    let in_both = slot_0.start.max(upload.start)..slot_0.end.min(upload.end);
+    if !(1..=LARGEST).contains(&size) || !in_both.is_empty() {
+        return Err(Refusal::Impossible);
+    }
+    Ok([slot_0, upload])
 }
 
 /// The session of a record, nothing where it is closed; or refusal 1 where the record is impossible.

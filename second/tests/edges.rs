@@ -4,11 +4,10 @@ use second::{port, sender};
 
 const IDLE: [u32; 4] = [0; 4];
 
-/// A controller with a slot, for histories of packets.
+/// A controller with an upload slot and an empty slot 0, for histories of packets.
 struct Device {
+    layout: [usize; 4],
     memory: Vec<u8>,
-    start: usize,
-    size: usize,
     record: [u32; 4],
     tag: [u8; 32],
 }
@@ -16,8 +15,9 @@ struct Device {
 impl Device {
     /// A configured controller whose memory is all 0.
     fn new(start: usize, size: usize, memory: usize) -> Device {
-        let mut device = Device { memory: vec![0; memory], start, size, record: [7; 4], tag: [7; 32] };
-        assert_eq!(port::configure(start, size, memory, &mut device.record, &mut device.tag), 0);
+        let layout = [0, 0, start, size];
+        let mut device = Device { layout, memory: vec![0; memory], record: [7; 4], tag: [7; 32] };
+        assert_eq!(port::configure(&layout, memory, &mut device.record, &mut device.tag), 0);
         assert_eq!((device.record, device.tag), (IDLE, [0; 32]));
         device
     }
@@ -26,8 +26,8 @@ impl Device {
     fn ask(&mut self, packet: &[u8]) -> (Vec<u8>, bool) {
         let mut reply = [0xEE; 600];
         let mut answer = [9; 2];
-        let Device { memory, start, size, record, tag } = self;
-        assert_eq!(port::handle(memory, *start, *size, record, tag, packet, &mut reply, &mut answer), 0);
+        let Device { layout, memory, record, tag } = self;
+        assert_eq!(port::handle(layout, memory, record, tag, packet, &mut reply, &mut answer), 0);
         let length = answer[0] as usize;
         assert!(reply[length..].iter().all(|byte| *byte == 0xEE));
         (reply[..length].to_vec(), answer[1] == 1)
@@ -43,7 +43,8 @@ impl Device {
 
     /// The slot's bytes.
     fn slot(&self) -> &[u8] {
-        &self.memory[self.start..self.start + self.size]
+        let [_, _, start, size] = self.layout;
+        &self.memory[start..start + size]
     }
 }
 
@@ -236,7 +237,7 @@ fn off_plus_data_does_not_wrap() {
     assert_eq!(device.numbers(&packet(1, 1, map)), (3, None));
     assert_eq!(device.record, [1, 12, 4, 0]);
     // A region whose end wraps.
-    assert_eq!(port::configure(usize::MAX, 2, 20, &mut [0; 4], &mut [0; 32]), 1);
+    assert_eq!(port::configure(&[0, 0, usize::MAX, 2], 20, &mut [0; 4], &mut [0; 32]), 1);
 }
 
 #[test]
@@ -394,8 +395,8 @@ fn echo_and_its_room() {
     let ask = |packet: &[u8], room: usize| {
         let mut reply = vec![0xEE; room];
         let mut answer = [9; 2];
-        let number =
-            port::handle(&mut [0; 4], 0, 4, &mut [0; 4], &mut [0; 32], packet, &mut reply, &mut answer);
+        let (record, tag) = (&mut [0; 4], &mut [0; 32]);
+        let number = port::handle(&[0, 0, 0, 4], &mut [0; 4], record, tag, packet, &mut reply, &mut answer);
         (number, reply, answer)
     };
     // Twenty characters fill a reply buffer of 32; one more does not fit.
@@ -409,9 +410,8 @@ fn echo_and_its_room() {
     // Refusal 11 stands before 10, and 1 before both.
     assert_eq!(ask(&[], 31).0, 11);
     assert_eq!(ask(&[], 32).0, 10);
-    let mut record = [1, 5, 1, 0];
-    let mut reply = [0; 0];
-    assert_eq!(port::handle(&mut [0; 4], 0, 4, &mut record, &mut [0; 32], &[], &mut reply, &mut [0; 2]), 1);
+    let (record, tag) = (&mut [1, 5, 1, 0], &mut [0; 32]);
+    assert_eq!(port::handle(&[0, 0, 0, 4], &mut [0; 4], record, tag, &[], &mut [], &mut [0; 2]), 1);
 }
 
 #[test]
@@ -448,9 +448,9 @@ fn reset_erase_and_unknown_commands() {
 #[test]
 fn packets_that_are_no_requests() {
     let mut device = Device::new(0, 4, 4);
-    let Device { memory, record, tag, .. } = &mut device;
+    let Device { layout, memory, record, tag } = &mut device;
     let mut refused =
-        |packet: &[u8]| port::handle(memory, 0, 4, record, tag, packet, &mut [0; 32], &mut [0; 2]);
+        |packet: &[u8]| port::handle(layout, memory, record, tag, packet, &mut [0; 32], &mut [0; 2]);
     assert_eq!(refused(&[2, 0, 0, 0, 0, 0, 0]), 10);
     assert_eq!(refused(&[2, 0, 0, 1, 0, 0, 0, 5]), 10);
     assert_eq!(refused(&[2, 0, 0, 0, 0, 0, 0, 5, 0xA0]), 10);

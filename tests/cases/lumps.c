@@ -7,8 +7,9 @@
 #include <string.h>
 
 #include "belagunthi.h"
+#include "data.h"
 
-enum { ROOM = 65536, MOST_WAYS = 64, PAINT = 0xEE, UNTOUCHED = 77 };
+enum { MOST_WAYS = 64, PAINT = 0xEE, UNTOUCHED = 77 };
 
 /* What a run gives, or a case wants, line by line. */
 struct notes {
@@ -34,14 +35,7 @@ static struct {
     struct notes wanted;
 } test;
 
-static unsigned row, cases, ways, calls, wrong;
-
-/* Ends the program: the data file is not as its head says. */
-static void malformed(const char *what)
-{
-    printf("line %u: %s\n", row, what);
-    exit(2);
-}
+static unsigned cases, ways, calls, wrong;
 
 /* Adds to notes. */
 static void note(struct notes *notes, const char *form, ...)
@@ -67,15 +61,6 @@ static void note_bytes(struct notes *notes, const uint8_t *bytes, size_t len)
     if (len == 0) {
         note(notes, "-");
     }
-}
-
-/* Says whether some bytes are all the same one. */
-static int all(const uint8_t *bytes, size_t len, uint8_t byte)
-{
-    while (len > 0 && bytes[len - 1] == byte) {
-        len--;
-    }
-    return len == 0;
 }
 
 /* Goes through a lump to its end, and notes what it gives; says whether it came there. */
@@ -142,37 +127,15 @@ static void note_end(const struct collector *collector, struct notes *given)
     note(given, "\n");
 }
 
-/* The number that a text begins with; the text goes on behind it. */
-static size_t number(char **text)
-{
-    char *from = *text;
-    unsigned long value = strtoul(from, text, 10);
-
-    if (*text == from || value > UINT32_MAX || (**text != '\0' && **text != ' ')) {
-        malformed("this is no number");
-    }
-    return value;
-}
-
-/* The number that is the whole of a text. */
-static size_t last_number(char *text)
-{
-    size_t value = number(&text);
-
-    if (*text != '\0') {
-        malformed("there is more behind the last number");
-    }
-    return value;
-}
-
 /* Reads a way to lump the case's stream, to the places where its lumps end; gives how many they are. */
 static size_t lump_ends(char *way, size_t ends[ROOM])
 {
     size_t count = 0;
     size_t last = 0;
+    char *text;
 
-    if (strncmp(way, "every ", 6) == 0) {
-        size_t step = last_number(way + 6);
+    if (begins(way, "every", &text)) {
+        size_t step = last_number(text, ROOM);
         if (step == 0) {
             malformed("lumps of 0 bytes have no end");
         }
@@ -181,11 +144,11 @@ static size_t lump_ends(char *way, size_t ends[ROOM])
         }
         return count;
     }
-    if (strncmp(way, "at", 2) != 0) {
+    if (!begins(way, "at", &text)) {
         malformed("lumps are 'every' or 'at'");
     }
-    for (char *text = way + 2; *text != '\0'; last = ends[count++]) {
-        ends[count] = number(&text);
+    for (; *text != '\0'; last = ends[count++]) {
+        ends[count] = number(&text, ROOM);
         if (ends[count] < last || ends[count] > test.len) {
             malformed("a place that is not behind the last one, or not in the stream");
         }
@@ -244,50 +207,17 @@ static void run_case(void)
     memset(&test, 0, sizeof test);
 }
 
-/* Reads bytes in hex, or - for none; gives how many they are. */
-static size_t bytes_of(const char *text, uint8_t bytes[ROOM])
-{
-    static const char digits[] = "0123456789abcdef";
-    size_t len = strlen(text) / 2;
-
-    if (strcmp(text, "-") == 0) {
-        return 0;
-    }
-    if (len == 0 || text[2 * len] != '\0' || text[strspn(text, digits)] != '\0') {
-        malformed("these are no bytes in hex");
-    }
-    for (size_t i = 0; i < len; i++) {
-        bytes[i] = (uint8_t)((strchr(digits, text[2 * i]) - digits) * 16 + (strchr(digits, text[2 * i + 1]) - digits));
-    }
-    return len;
-}
-
 /* Reads the record of a single call: its count may be higher than the bytes that there is room for. */
 static void read_record(char *text)
 {
     static uint8_t held[ROOM];
-    char *blank = strchr(text, ' ');
-    size_t count;
+    size_t count = bytes_of(word(&text), held);
 
-    if (blank == NULL) {
-        malformed("a record is its bytes and a number");
-    }
-    *blank = '\0';
-    count = bytes_of(text, held);
     memset(test.begin.held, PAINT, BG_HELD);
     memcpy(test.begin.held, held, count < BG_HELD ? count : BG_HELD);
     test.begin.record[BG_COLLECTOR_COUNT] = (uint32_t)count;
-    test.begin.record[BG_COLLECTOR_SKIPPING] = (uint32_t)last_number(blank + 1);
+    test.begin.record[BG_COLLECTOR_SKIPPING] = (uint32_t)last_number(text, UINT32_MAX);
     test.has_record = 1;
-}
-
-/* Says whether a line begins with a word, and where the words behind it are. */
-static int begins(char *line, const char *word, char **rest)
-{
-    size_t len = strlen(word);
-
-    *rest = line + len + (line[len] == ' ');
-    return strncmp(line, word, len) == 0 && (line[len] == ' ' || line[len] == '\0');
 }
 
 /* Reads one line of the data file. */
@@ -295,9 +225,6 @@ static void read_line(char *line)
 {
     char *rest;
 
-    if (line[0] == '\0' || line[0] == '#') {
-        return;
-    }
     if (begins(line, "case", &rest)) {
         if (test.name[0] != '\0') {
             run_case();
@@ -330,17 +257,7 @@ static void read_line(char *line)
 /* Reads the data file on standard input, and runs its cases. */
 int main(void)
 {
-    static char line[ROOM];
-
-    while (fgets(line, sizeof line, stdin) != NULL) {
-        size_t len = strcspn(line, "\n");
-        row++;
-        if (line[len] == '\0') {
-            malformed("the line is too long, or has no end");
-        }
-        line[len] = '\0';
-        read_line(line);
-    }
+    read_file(read_line);
     if (test.name[0] == '\0') {
         malformed("there is no case");
     }
