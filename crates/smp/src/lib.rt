@@ -14,6 +14,7 @@ ghost use lib.ListN.{length, drop};
 ghost use Rattle.laws.specs.Bytes.{pasted, ofBe16};
 ghost use Rattle.cbor.specs.Inner.{Put};
 ghost use Rattle.cbor.specs.Write.{unsigned, textOf};
+ghost use Rattle.reason.specs.Rc.{rcOf};
 ghost use Rattle.smp.specs.Packet.{headerIn, sized, headerBytes};
 ghost use Rattle.smp.specs.Request.{imageRead, commandOf, uploadOf, requestOf, isRequest, readRequest};
 ghost use Rattle.smp.specs.Reply.{rcMap, replyMap, replyHeader, replyPacket, Sayable};
@@ -419,13 +420,14 @@ fn put_reply(h: Header, s: &[u8], reply: Reply, buf: &mut [u8]) -> usize
     end
 }
 
-// Writes rc 7 to the start of buf, for a reply that does not fit; gives how long it is.
+// Writes the rc of a reply that does not fit to the start of buf; gives how long it is.
 pub fn put_too_long(h: Header, buf: &mut [u8]) -> usize
     requires { ⌜ 32 ≤ length (now buf) ⌝ }
     requires { ⌜ h .op < 255 ⌝ }
-    ensures { λ r. ⌜ Put r (now (buf .exit)) (now (buf .entry)) 0 (replyPacket h (rcMap 7)) ⌝ }
+    ensures { λ r. ⌜ Put r (now (buf .exit)) (now (buf .entry)) 0 (replyPacket h (rcMap (rcOf Reason.ReplyTooLong))) ⌝ }
 {
-    let end = put_rc(buf, 7);
+    let rc = reason::rc(Reason::ReplyTooLong);
+    let end = put_rc(buf, rc);
     put_reply_header(h, buf, end);
     end
 }
