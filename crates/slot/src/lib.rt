@@ -6,7 +6,7 @@ use refusal::Refusal;
 ghost use mathlib.Core.Path.{_≡_};
 ghost use mathlib.Core.List.{List};
 ghost use mathlib.Core.Bool.{true, false, not};
-ghost use Prim.Native.Nat.{ℕ, _+_, _-_, _^_, _≤_, _<_, min, max};
+ghost use Prim.Native.Nat.{ℕ, _+_, _-_, _^_, _≤_, _<_};
 ghost use lib.Dec.{ltb, eqb};
 ghost use lib.ListN.{length};
 ghost use Rattle.laws.specs.Choice.{both};
@@ -102,26 +102,6 @@ fn slot_end(slot: Slot) -> usize
     slot.start + slot.size
 }
 
-// The larger of two numbers.
-fn larger(a: usize, b: usize) -> usize
-    ensures { λ r. ⌜ r ≡ max a b ⌝ }
-{
-    if a < b {
-        return b;
-    }
-    a
-}
-
-// The smaller of two numbers.
-fn smaller(a: usize, b: usize) -> usize
-    ensures { λ r. ⌜ r ≡ min a b ⌝ }
-{
-    if a < b {
-        return a;
-    }
-    b
-}
-
 // Whether two regions have a byte in common.
 fn overlap(a: Slot, b: Slot) -> bool
     requires { ⌜ (a .start + a .size < 2 ^ 64) × (b .start + b .size < 2 ^ 64) ⌝ }
@@ -129,9 +109,16 @@ fn overlap(a: Slot, b: Slot) -> bool
 {
     let end_a = slot_end(a);
     let end_b = slot_end(b);
-    let begin = larger(a.start, b.start);
-    let end = smaller(end_a, end_b);
-    begin < end
+    if end_a <= b.start {
+        return false;
+    }
+    if end_b <= a.start {
+        return false;
+    }
+    if a.size == 0 {
+        return false;
+    }
+    b.size != 0
 }
 
 // Whether both regions are possible, in a memory of this many bytes.

@@ -1,12 +1,35 @@
--- `slot::overlap` meets its contract: the later start is compared with the sooner end.
+-- `slot::overlap` meets its contract: no byte is in both where one region ends before the other, or is empty.
 -- Assumes nothing.
-use mathlib.Core.Path.{ap₂, _∙_}
-use Prim.Native.Nat.{ℕ, min, max}
-use lib.Dec.{ltb}
+use mathlib.Core.Path.{_≡_, refl, sym}
+use mathlib.Core.Bool.{Bool, true, false, not}
+use Prim.Native.Nat.{_+_, _≤_, _<_, min, max}
+use native.Mathlib.Omega.{arith}
+use lib.Dec.{eqb}
+use borrow.Author.Tests.{lt-ltb, le-ltb, eqb-true, eqb-false}
+use Rattle.slot.specs.declared.Slot.{Slot}
 use Rattle.slot.specs.Session.{overlapping}
 use borrow.Author.Needs.{needs}
 use Rattle.slot.proofs.overlap.Statement.{statement}
 use Rattle.slot.proofs.overlap.Tie as tie
+
+-- the later start is not before the sooner end
+apart : (a b : Slot) → min (a .start + a .size) (b .start + b .size) ≤ max (a .start) (b .start) → false ≡ overlapping a b
+unfolding overlapping
+apart a b h = sym (le-ltb _ _ h)
+
+-- a first region that is not empty, and neither ends before the other: it depends on the second
+depends : (a b : Slot) → b .start < a .start + a .size → a .start < b .start + b .size → (a .size ≡ 0 → ⊥) → not (eqb (b .size) 0) ≡ overlapping a b
+unfolding overlapping
+depends a b h k some = by-test (eqb (b .size) 0) refl
+  where
+    by-test : (t : Bool) → eqb (b .size) 0 ≡ t → not t ≡ overlapping a b
+    by-test true e =
+        let z : b .size ≡ 0 = eqb-true _ _ e in
+        apart a b (omega (arith, z))
+    by-test false e =
+        let z : b .size ≡ 0 → ⊥ = eqb-false _ _ e in
+        let l : max (a .start) (b .start) < min (a .start + a .size) (b .start + b .size) = omega (arith, z, some, h, k) in
+        sym (lt-ltb _ _ l)
 
 slot-end-requires : tie.Need-slot-end-requires
 slot-end-requires c κs = search needs
@@ -14,19 +37,29 @@ slot-end-requires c κs = search needs
 slot-end-requires-2 : tie.Need-slot-end-requires-2
 slot-end-requires-2 c κs = search needs
 
-larger-requires : tie.Need-larger-requires
-larger-requires c κs = search needs
-
-smaller-requires : tie.Need-smaller-requires
-smaller-requires c κs = search needs
-
 returns : tie.Need-returns
-unfolding overlapping
 returns c =
-    let b = c .before .before in
-    ap₂ ltb (c .before .larger .ensures) (c .smaller .ensures ∙ ap₂ min (b .before .slot-end .ensures) (b .slot-end2 .ensures))
+    let a = c .before .before .before .before .args in
+    apart (a .a) (a .b) (omega (arith, c .if1 .taken, c .before .before .before .slot-end .ensures))
+
+returns-2 : tie.Need-returns-2
+returns-2 c =
+    let a = c .before .before .before .before .before .before .args in
+    apart (a .a) (a .b) (omega (arith, c .if2 .taken, c .before .before .before .before .slot-end2 .ensures))
+
+returns-3 : tie.Need-returns-3
+returns-3 c =
+    let a = c .before .before .before .before .before .before .before .before .args in
+    apart (a .a) (a .b) (omega (arith, c .if3 .taken))
+
+returns-4 : tie.Need-returns-4
+returns-4 c =
+    let a = c .before .before .before .before .before .before .before .before .before .args in
+    depends (a .a) (a .b) (omega (arith, c .before .before .before .before .before .if1 .left, c .before .before .before .before .before .before .before .before .slot-end .ensures))
+    (omega (arith, c .before .before .before .if2 .left, c .before .before .before .before .before .before .before .slot-end2 .ensures))
+    (c .before .if3 .left)
 
 pub overlap-spec : {M : Type 1} → statement M
 overlap-spec =
     tie.close
-    (tie.spec slot-end-requires slot-end-requires-2 larger-requires smaller-requires returns)
+    (tie.spec slot-end-requires slot-end-requires-2 returns returns-2 returns-3 returns-4)
