@@ -45,8 +45,9 @@ use Rattle.sender.specs.Sender as sending
 use Rattle.sender.specs.Sender.{sendFrame}
 use Rattle.roundtrip.proofs.Passage.{round-trip}
 use Rattle.roundtrip.proofs.Sent.{frame-stands}
-use Rattle.port.specs.Records.{readerFrom, readerOf}
-use Rattle.port.specs.Calls.{TookLine, keepsRecord, tookBy, tookLine, sentBy, sentFrame}
+use Rattle.records.specs.Records.{readerFrom, readerOf}
+use Rattle.records.specs.Results.{keepsRecord}
+use Rattle.port.specs.Calls.{TookLine, tookBy, tookLine, sentBy, sentFrame}
 use Rattle.caller.specs.Records.{FirstByte}
 use Rattle.caller.specs.Lines.{saidOf, saying, taking, RowTakes, LineWritten, CallerRoundTrip}
 use Rattle.caller.proofs.Records.{reader-back}

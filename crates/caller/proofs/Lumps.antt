@@ -19,8 +19,9 @@ use Rattle.reader.specs.Reader as reading
 use Rattle.reader.specs.Lines as reader-lines
 use Rattle.roundtrip.specs.Lumped.{hear}
 use Rattle.roundtrip.proofs.Lumped.{lumps-heard, lumped-round-trip}
-use Rattle.port.specs.Records.{collectorNumbers, collectorOf, readerOf}
-use Rattle.port.specs.Calls.{CollectedC, stepResult, stepLength, collectedBy, collectedC, TookLine, tookLine}
+use Rattle.records.specs.Records.{collectorNumbers, collectorOf, readerOf}
+use Rattle.records.specs.Results.{stepResult, stepLength}
+use Rattle.port.specs.Calls.{CollectedC, collectedBy, collectedC, TookLine, tookLine}
 use Rattle.caller.specs.Lines as row-lines
 use Rattle.caller.specs.Lines.{runIn}
 use Rattle.caller.specs.Lumps.{Calls, over, lined, long, Lumped, none, next, CallerLumps, hearing, RowHears, CallerHears, CallerLumpedRoundTrip}

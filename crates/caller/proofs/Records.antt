@@ -7,7 +7,7 @@ use native.Mathlib.Omega.{arith}
 use Rattle.laws.specs.Choice.{pick}
 use Rattle.reader.specs.declared.Reader.the-variants.{Idle, Open}
 use Rattle.map.specs.Fields.{flagNumber}
-use Rattle.port.specs.Records.{flagOf, collectorNumbers, readerFrom, readerNumbers, sessionNumbers}
+use Rattle.records.specs.Records.{flagOf, collectorNumbers, readerFrom, readerNumbers, sessionNumbers}
 use Rattle.caller.specs.Records.{CollectorBack, SessionBack, ReaderBack}
 
 -- a flag that was stored is read back

@@ -15,7 +15,7 @@ use Rattle.map.specs.Walk.{mapFrom}
 use Rattle.map.proofs.Sound.{map-run}
 use Rattle.slot.specs.Plan.{above, largest}
 use Rattle.host.specs.Read.{Said, reply, refused, valuesOf, mapRead, isReply, readReply}
-use Rattle.port.specs.Records.{runStart, runLength, replyNumbers}
+use Rattle.records.specs.Records.{runStart, runLength, replyNumbers}
 use Rattle.port.specs.Calls.{readBy, readC}
 use Rattle.port.proofs.Reading.{run-inside}
 use Rattle.caller.specs.Replies.{TextInside}

@@ -10,7 +10,7 @@ use Rattle.slot.specs.Session.{State, stateOf, closedIn}
 use Rattle.slot.specs.Act.{Act}
 use Rattle.slot.specs.History.{HeldIn, CutFrom, SentWhole}
 use Rattle.controller.specs.Calls.{Call, actsOf}
-use Rattle.port.specs.Records.{layoutOf, sessionOf}
+use Rattle.records.specs.Records.{layoutOf, sessionOf}
 use Rattle.port.specs.Calls.{HandledC, handledC, configuredC}
 
 -- the arrays that the controller keeps from call to call

@@ -12,7 +12,7 @@ use Rattle.reader.specs.Reader.{Said, more, body, refused}
 use Rattle.reader.specs.Lines.{Run, feed, Amid}
 use Rattle.sender.specs.Sender.{frameCount, frameOf}
 use Rattle.roundtrip.specs.RoundTrip.{frames, answers, readBack}
-use Rattle.port.specs.Records.{readerOf}
+use Rattle.records.specs.Records.{readerOf}
 use Rattle.port.specs.Calls.{TookLine, tookLine, sentFrame}
 
 -- what a result of bg_take_line and *body mean together

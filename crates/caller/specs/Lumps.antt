@@ -13,7 +13,7 @@ use Rattle.reader.specs.Reader as reading
 use Rattle.reader.specs.Lines.{feed, Amid}
 use Rattle.roundtrip.specs.RoundTrip.{frames, answers, readBack}
 use Rattle.roundtrip.specs.Lumped.{hear, linesIn, Whole}
-use Rattle.port.specs.Records.{collectorNumbers, readerOf}
+use Rattle.records.specs.Records.{collectorNumbers, readerOf}
 use Rattle.port.specs.Calls.{collectedC, TookLine, tookLine}
 use Rattle.caller.specs.Lines.{saidOf, Row, saying, runIn}
 

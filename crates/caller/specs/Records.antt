@@ -6,7 +6,7 @@ use Rattle.collector.specs.declared.Collector.{Collector}
 use Rattle.reader.specs.declared.Reader.{Reader}
 use Rattle.reader.specs.declared.Reader.the-variants.{Idle, Open}
 use Rattle.slot.specs.declared.Session.{Session}
-use Rattle.port.specs.Records.{collectorOf, collectorNumbers, readerOf, readerNumbers, sessionOf, sessionNumbers}
+use Rattle.records.specs.Records.{collectorOf, collectorNumbers, readerOf, readerNumbers, sessionOf, sessionNumbers}
 
 -- the collector's record
 abbrev pub CollectorBack : Type 0

@@ -1,4 +1,3 @@
-pub mod Keeps
 pub mod Lines
 pub mod Sessions
 pub mod Small

@@ -43,8 +43,9 @@ use Rattle.reader.specs.Reader.{
   resumed,
   takeLine,
 }
-use Rattle.port.specs.Records.{readerOf, readerNumbers}
-use Rattle.port.specs.Calls.{TookLine, keepsRecord, tookBy, tookLine}
+use Rattle.records.specs.Records.{readerOf, readerNumbers}
+use Rattle.records.specs.Results.{keepsRecord}
+use Rattle.port.specs.Calls.{TookLine, tookBy, tookLine}
 use Rattle.port.specs.Inner.{SmallBy}
 
 -- an outcome can be handed over

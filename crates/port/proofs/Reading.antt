@@ -24,8 +24,8 @@ use Rattle.smp.specs.Packet.{sized}
 use Rattle.smp.proofs.Headers.{two-bytes}
 use Rattle.host.specs.declared.Reply.{Reply}
 use Rattle.host.specs.Read.{Said, reply, refused, orZero, valuesOf, mapRead, isReply, readReply}
-use Rattle.port.specs.Records.{runStart, runLength}
-use Rattle.port.specs.Inner.{ReplySmall}
+use Rattle.records.specs.Records.{runStart, runLength}
+use Rattle.records.specs.Inner.{ReplySmall}
 
 -- a reply that was heard is small
 abbrev SaidSmall : Said → Type 0

@@ -55,9 +55,9 @@ use Rattle.controller.specs.Handle.{
 }
 use Rattle.controller.proofs.Laws.{taking-impossible, handle-refused, response-answerable}
 use Rattle.controller.proofs.Calls.{call-fit}
-use Rattle.port.specs.Records.{layoutOf, sessionOf, sessionNumbers}
+use Rattle.records.specs.Records.{layoutOf, sessionOf, sessionNumbers}
 use Rattle.port.specs.Calls.{HandledC, handledBy, handledC}
-use Rattle.port.specs.Inner.{Held32}
+use Rattle.records.specs.Inner.{Held32}
 
 -- an act that is fit leaves small numbers small
 fit-small : (slot : Slot) (st : State) (a : Act) → slot .size ≤ 1048576 → Held32 (st .session) → Fit slot (st .session) a → Held32 (done slot a st .session)

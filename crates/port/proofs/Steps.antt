@@ -15,8 +15,9 @@ use Rattle.collector.specs.Collector as collecting
 use Rattle.collector.proofs.Laws.{collect-impossible, collect-long}
 use Rattle.collector.proofs.Cut.{formed, possible-longer}
 use Rattle.collector.proofs.Lumps.{Stepping, to-end, to-line, to-long, stepping}
-use Rattle.port.specs.Records.{collectorOf, collectorNumbers}
-use Rattle.port.specs.Calls.{stepResult, stepLength, wentOn, collectedBy, collectedC}
+use Rattle.records.specs.Records.{collectorOf, collectorNumbers}
+use Rattle.records.specs.Results.{stepResult, stepLength, wentOn}
+use Rattle.port.specs.Calls.{collectedBy, collectedC}
 use Rattle.port.specs.Inner.{StepSmall}
 
 -- the refusals 1 and 12 do not go on

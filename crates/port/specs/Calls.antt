@@ -1,10 +1,8 @@
 -- What each call of the C interface returns, and what every lent number and byte holds afterwards.
 -- Assumes nothing.
 use Prim.Native.Nat.{ℕ}
-use mathlib.Core.Bool.{Bool, true, not}
 use mathlib.Core.List.{List, [], _∷_}
-use lib.Dec.{eqb}
-use Rattle.laws.specs.Choice.{pick, both}
+use Rattle.laws.specs.Choice.{pick}
 use Rattle.collector.specs.Collector as collecting
 use Rattle.reader.specs.declared.Reader.{Reader}
 use Rattle.reader.specs.Reader as reading
@@ -13,7 +11,8 @@ use Rattle.slot.specs.Session as slots
 use Rattle.controller.specs.Handle as handling
 use Rattle.host.specs.Write as writing
 use Rattle.host.specs.Read as hearing
-use Rattle.port.specs.Records.{layoutOf, collectorOf, collectorNumbers, readerOf, readerNumbers, sessionOf, sessionNumbers, replyNumbers}
+use Rattle.records.specs.Records.{layoutOf, collectorOf, collectorNumbers, readerOf, readerNumbers, sessionOf, sessionNumbers, replyNumbers}
+use Rattle.records.specs.Results.{stepResult, stepLength, wentOn, keepsRecord, WroteC, wroteBy}
 
 -- bg_collect: the result, the record's numbers and bytes, the line array and the two numbers
 pub record CollectedC : Type 0 where
@@ -22,22 +21,6 @@ pub record CollectedC : Type 0 where
   pub held : List ℕ
   pub line : List ℕ
   pub got : List ℕ
-
--- a step's result: 0, or the refusal's number
-unfoldable pub stepResult : collecting.Said → ℕ
-stepResult (collecting.lineOf n) = 0
-stepResult collecting.usedUp = 0
-stepResult (collecting.refusing n) = n
-
--- the length of the line that a step gave, or 0
-unfoldable pub stepLength : collecting.Said → ℕ
-stepLength (collecting.lineOf n) = n
-stepLength collecting.usedUp = 0
-stepLength (collecting.refusing n) = 0
-
--- a step with this result went on in its lump: it took bytes, or the lump is used up; at 1 and 12 all stays
-abbrev pub wentOn : ℕ → Bool
-wentOn n = pick (eqb n 0) true (eqb n 2)
 
 -- by what the step leaves
 unfoldable pub collectedBy : List ℕ → List ℕ → List ℕ → collecting.Outcome → CollectedC
@@ -61,10 +44,6 @@ pub record TookLine : Type 0 where
   pub record-after : List ℕ
   pub packet : List ℕ
   pub body : ℕ
-
--- refusals 2, 3 and 5 leave the record as it was lent
-abbrev pub keepsRecord : ℕ → Bool
-keepsRecord n = not (both (not (eqb n 2)) (both (not (eqb n 3)) (not (eqb n 5))))
 
 -- by what the reader said
 unfoldable pub tookBy : List ℕ → ℕ → Reader → List ℕ → reading.Said → TookLine
@@ -132,16 +111,7 @@ handledC layout m s tag p b a =
     let o : handling.Outcome = handling.handle (layoutOf layout) (slots.stateOf m tag (sessionOf s)) p b in
     handledBy s a o (o .says)
 
--- the request writers: the result, the output and *packet_len
-pub record WroteC : Type 0 where
-  pub result : ℕ
-  pub out : List ℕ
-  pub size : ℕ
-
-unfoldable pub wroteBy : ℕ → List ℕ → writing.Told → WroteC
-wroteBy n out (writing.packet size) = record { result = 0; out = out; size = size }
-wroteBy n out (writing.refused r) = record { result = r; out = out; size = n }
-
+-- the request writers, by what they leave
 unfoldable pub wroteC : ℕ → writing.Outcome → WroteC
 wroteC n o = wroteBy n (o .buffer) (o .says)
 

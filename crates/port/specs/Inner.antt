@@ -1,43 +1,21 @@
--- Only proofs need this file: which records and answers the arrays of 32-bit numbers can hold.
+-- Only proofs need this file: which steps and answers can be handed over in 32-bit numbers.
 -- Assumes nothing.
-use Prim.Native.Nat.{_≤_, _<_}
+use Prim.Native.Nat.{_≤_}
 use mathlib.Core.Path.{_≡_}
 use mathlib.Core.Bool.{true, false}
 use Rattle.frame.specs.Line.{longest}
 use Rattle.collector.specs.Collector as collecting
 use Rattle.reader.specs.declared.Reader.{Reader}
-use Rattle.reader.specs.declared.Reader.the-variants.{Idle, Open}
 use Rattle.reader.specs.Reader as reading
-use Rattle.slot.specs.declared.Session.{Session}
-use Rattle.host.specs.declared.Reply.{Reply}
-use Rattle.host.specs.Read.{orZero}
-use Rattle.port.specs.Records.{runStart, runLength}
-use Rattle.port.specs.Calls.{stepResult, stepLength, wentOn, keepsRecord}
+use Rattle.records.specs.Results.{stepResult, stepLength, wentOn, keepsRecord}
+use Rattle.records.specs.Inner.{Storable}
 
 -- where a step of the collector went on, its numbers fit
 abbrev pub StepSmall : collecting.Outcome → Type 0
 StepSmall o = wentOn (stepResult (o .says)) ≡ true → (stepLength (o .says) ≤ longest) × (o .place ≤ collecting.longestLump) × (o .collector .count ≤ collecting.most)
-
--- a reader's record whose numbers fit
-abbrev pub Storable : Reader → Type 0
-Storable Idle = Unit {0}
-Storable (Open total come first) = (total ≤ 65535) × (come ≤ 65535)
 
 -- what the reader said, with its record, can be handed over
 abbrev pub SmallBy : reading.Said → Reader → Type 0
 SmallBy reading.more r = Storable r
 SmallBy (reading.body n) r = (n ≤ 65533) × Storable r
 SmallBy (reading.refused n) r = keepsRecord n ≡ false → Storable r
-
--- a session record whose numbers fit
-abbrev pub Held32 : Session → Type 0
-Held32 s = (s .length < 4294967296) × (s .place < 4294967296)
-
--- a reply's numbers fit the 32 bits that C reads; its four other header fields are bytes
-pub record ReplySmall (r : Reply) : Type 0 where
-  pub length : r .header .length ≤ 4294967295
-  pub group : r .header .group ≤ 4294967295
-  pub rc : r .rc ≤ 4294967295
-  pub off : orZero (r .off) ≤ 4294967295
-  pub start : runStart (r .text) ≤ 4294967295
-  pub run : runLength (r .text) ≤ 4294967295

@@ -2,7 +2,7 @@
 -- Assumes nothing.
 use mathlib.Core.Path.{sym, ap, _∙_}
 use native.Mathlib.Omega.{arith}
-use Rattle.port.specs.Calls.{wentOn}
+use Rattle.records.specs.Results.{wentOn}
 use Rattle.port.proofs.Steps.{step-small, went, stayed}
 use borrow.Author.Needs.{needs}
 use Rattle.port.proofs.bg_collect.Statement.{statement}

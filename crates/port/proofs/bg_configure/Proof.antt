@@ -6,7 +6,7 @@ use Rattle.slot.specs.declared.Configured.{Configured}
 use Rattle.slot.specs.declared.Layout.{Layout}
 use Rattle.slot.specs.Session.{Said, said, configured}
 use Rattle.map.specs.Fields.{flagNumber}
-use Rattle.port.specs.Records.{sessionNumbers}
+use Rattle.records.specs.Records.{sessionNumbers}
 use Rattle.port.specs.Calls.{ConfiguredC, configuredBy, configuredC}
 use borrow.Author.Needs.{needs}
 use Rattle.port.proofs.bg_configure.Statement.{statement}

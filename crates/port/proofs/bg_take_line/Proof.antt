@@ -4,8 +4,8 @@ use mathlib.Core.Path.{sym, ap, subst, _∙_}
 use native.Mathlib.Omega.{arith}
 use Rattle.reader.specs.declared.Answer.{Answer}
 use Rattle.reader.specs.Reader.{said}
-use Rattle.port.specs.Records.{readerNumbers}
-use Rattle.port.specs.Calls.{keepsRecord}
+use Rattle.records.specs.Records.{readerNumbers}
+use Rattle.records.specs.Results.{keepsRecord}
 use Rattle.port.specs.Inner.{SmallBy}
 use Rattle.port.proofs.Lines.{took-is, taken-small, took-more, took-body, took-refused, record-kept, record-stored}
 use borrow.Author.Needs.{needs}

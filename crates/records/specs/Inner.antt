@@ -1,0 +1,27 @@
+-- Only proofs need this file: which records the arrays of 32-bit numbers can hold.
+-- Assumes nothing.
+use Prim.Native.Nat.{_≤_, _<_}
+use Rattle.reader.specs.declared.Reader.{Reader}
+use Rattle.reader.specs.declared.Reader.the-variants.{Idle, Open}
+use Rattle.slot.specs.declared.Session.{Session}
+use Rattle.host.specs.declared.Reply.{Reply}
+use Rattle.host.specs.Read.{orZero}
+use Rattle.records.specs.Records.{runStart, runLength}
+
+-- a reader's record whose numbers fit
+abbrev pub Storable : Reader → Type 0
+Storable Idle = Unit {0}
+Storable (Open total come first) = (total ≤ 65535) × (come ≤ 65535)
+
+-- a session record whose numbers fit
+abbrev pub Held32 : Session → Type 0
+Held32 s = (s .length < 4294967296) × (s .place < 4294967296)
+
+-- a reply's numbers fit the 32 bits that C reads; its four other header fields are bytes
+pub record ReplySmall (r : Reply) : Type 0 where
+  pub length : r .header .length ≤ 4294967295
+  pub group : r .header .group ≤ 4294967295
+  pub rc : r .rc ≤ 4294967295
+  pub off : orZero (r .off) ≤ 4294967295
+  pub start : runStart (r .text) ≤ 4294967295
+  pub run : runLength (r .text) ≤ 4294967295
