@@ -94,21 +94,13 @@ fn lies_in(region: Slot, room: usize) -> bool
     region.start <= room - size
 }
 
-// The place after the slot's last byte.
-fn slot_end(slot: Slot) -> usize
-    requires { ⌜ slot .start + slot .size < 2 ^ 64 ⌝ }
-    ensures { λ r. ⌜ r ≡ slot .start + slot .size ⌝ }
-{
-    slot.start + slot.size
-}
-
 // Whether two regions have a byte in common.
 fn overlap(a: Slot, b: Slot) -> bool
     requires { ⌜ (a .start + a .size < 2 ^ 64) × (b .start + b .size < 2 ^ 64) ⌝ }
     ensures { λ r. ⌜ r ≡ overlapping a b ⌝ }
 {
-    let end_a = slot_end(a);
-    let end_b = slot_end(b);
+    let end_a = a.start + a.size;
+    let end_b = b.start + b.size;
     if end_a <= b.start {
         return false;
     }
@@ -385,6 +377,14 @@ pub fn plan_upload(
         return plan_later(session, upload);
     }
     plan_first(slot, session, tag, source, upload)
+}
+
+// The place after the slot's last byte.
+fn slot_end(slot: Slot) -> usize
+    requires { ⌜ slot .start + slot .size < 2 ^ 64 ⌝ }
+    ensures { λ r. ⌜ r ≡ slot .start + slot .size ⌝ }
+{
+    slot.start + slot.size
 }
 
 // Sets every byte of the slot to 255.

@@ -31,21 +31,21 @@ depends a b h k some = by-test (eqb (b .size) 0) refl
         let l : max (a .start) (b .start) < min (a .start + a .size) (b .start + b .size) = omega (arith, z, some, h, k) in
         sym (lt-ltb _ _ l)
 
-slot-end-requires : tie.Need-slot-end-requires
-slot-end-requires c κs = search needs
+add-end-a : tie.Need-add-end-a
+add-end-a c = search needs
 
-slot-end-requires-2 : tie.Need-slot-end-requires-2
-slot-end-requires-2 c κs = search needs
+add-end-b : tie.Need-add-end-b
+add-end-b c = search needs
 
 returns : tie.Need-returns
 returns c =
     let a = c .before .before .before .before .args in
-    apart (a .a) (a .b) (omega (arith, c .if1 .taken, c .before .before .before .slot-end .ensures))
+    apart (a .a) (a .b) (omega (arith, c .if1 .taken))
 
 returns-2 : tie.Need-returns-2
 returns-2 c =
     let a = c .before .before .before .before .before .before .args in
-    apart (a .a) (a .b) (omega (arith, c .if2 .taken, c .before .before .before .before .slot-end2 .ensures))
+    apart (a .a) (a .b) (omega (arith, c .if2 .taken))
 
 returns-3 : tie.Need-returns-3
 returns-3 c =
@@ -55,11 +55,9 @@ returns-3 c =
 returns-4 : tie.Need-returns-4
 returns-4 c =
     let a = c .before .before .before .before .before .before .before .before .before .args in
-    depends (a .a) (a .b) (omega (arith, c .before .before .before .before .before .if1 .left, c .before .before .before .before .before .before .before .before .slot-end .ensures))
-    (omega (arith, c .before .before .before .if2 .left, c .before .before .before .before .before .before .before .slot-end2 .ensures))
-    (c .before .if3 .left)
+    depends (a .a) (a .b) (c .before .before .before .before .before .if1 .left) (c .before .before .before .if2 .left) (c .before .if3 .left)
 
 pub overlap-spec : {M : Type 1} → statement M
 overlap-spec =
     tie.close
-    (tie.spec slot-end-requires slot-end-requires-2 returns returns-2 returns-3 returns-4)
+    (tie.spec add-end-a add-end-b returns returns-2 returns-3 returns-4)

@@ -1,10 +1,10 @@
 -- `smp::put_too_long` meets its contract: its rc has room in every reply buffer.
 -- Assumes nothing.
-use mathlib.Core.Path.{_≡_, sym, subst}
+use mathlib.Core.Path.{_≡_, subst}
 use mathlib.Core.List.{List}
-use Prim.Native.Nat.{ℕ, _+_, _≤_}
+use Prim.Native.Nat.{ℕ}
+use native.Mathlib.Omega.{arith}
 use lib.Dec.{lit<}
-use lib.ListN.{length}
 use Rattle.cbor.specs.Inner.{Put}
 use Rattle.smp.specs.Reply.{rcMap}
 use Rattle.smp.proofs.Writing.{rc-room, packet-put}
@@ -16,9 +16,7 @@ rc-requires : tie.Need-rc-requires
 rc-requires c κs = search needs
 
 put-rc-requires : tie.Need-put-rc-requires
-put-rc-requires c κs =
-    let room : 8 + length (rcMap 7) ≤ _ = rc-room 7 (lit< tt) (c .before .before .before .pre .0) in
-    subst (λ (n : ℕ). 8 + length (rcMap n) ≤ length (c .before .before .before .args .buf .now)) (sym (c .before .rc .ensures)) room
+put-rc-requires c κs = rc-room (c .before .rc .result) (omega arith) (c .before .before .before .pre .0)
 
 put-reply-header-requires : tie.Need-put-reply-header-requires
 put-reply-header-requires c κs = search needs
