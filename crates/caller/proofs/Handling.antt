@@ -14,7 +14,7 @@ use Rattle.slot.specs.Session as slots
 use Rattle.slot.specs.Session.{State, stateOf, layoutOk, closed, closedIn, noTag}
 use Rattle.slot.specs.Act.{done}
 use Rattle.slot.specs.History.{HeldIn, SentWhole}
-use Rattle.controller.specs.Handle.{Said, replied, resetAsked, refused, Outcome, Taking, refusal, request, saidBy, actBy, taking, handled, handle}
+use Rattle.controller.specs.Handle.{Said, replied, resetAsked, refused, Taking, refusal, request, saidBy, actBy, taking, handled, handle}
 use Rattle.controller.specs.Doing.{asksReset}
 use Rattle.controller.specs.Calls as calling
 use Rattle.controller.specs.Calls.{actsOf}

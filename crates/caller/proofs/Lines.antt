@@ -1,7 +1,7 @@
 -- The round trip for a caller in C: each call takes the line as the reader does, and what it stores is read back by the next.
 -- Assumes nothing.
 use mathlib.Core.Path.{_≡_, refl, sym, ap₂, _∙_}
-use mathlib.Core.Bool.{Bool, true, false, not, true≢false}
+use mathlib.Core.Bool.{true, false, not, true≢false}
 use mathlib.Core.List.{List, [], _∷_}
 use mathlib.Core.Option.{Option, none, some}
 use Prim.Native.Nat.{ℕ, _+_, _-_, _≤_, _<_}
@@ -9,7 +9,7 @@ use native.Mathlib.Omega.{arith}
 use lib.Dec.{ltb, leb, eqb, lit<}
 use lib.ListN.{length, getD, take, drop}
 use borrow.Author.Tests.{ltb-false, leb-true, ne-eqb}
-use Rattle.laws.specs.Choice.{pick, both}
+use Rattle.laws.specs.Choice.{both}
 use Rattle.laws.specs.Bytes.{Bytes, ofBe16}
 use Rattle.laws.proofs.Choice.{pick-case, pick-yes, pick-no, both-true}
 use Rattle.laws.proofs.Lists.{bytes-drop, bytes-cons}

@@ -11,7 +11,7 @@ use Rattle.frame.specs.Line.{longest}
 use Rattle.collector.specs.declared.Collector.{Collector}
 use Rattle.collector.specs.Collector.{longestLump, before, empty, longer, Handed, line, refused, tooLong, lineOf, usedUp, refusing, Outcome, collect}
 use Rattle.collector.specs.Lumps as lumping
-use Rattle.collector.specs.Lumps.{Steps, Lumps, Possible, joined, stream}
+use Rattle.collector.specs.Lumps.{Steps, Lumps, Possible}
 use Rattle.collector.proofs.Cut.{possible-empty}
 use Rattle.collector.proofs.Lumps.{Stepping, to-end, to-line, to-long, stepping, steps-possible, lumps-give}
 use Rattle.reader.specs.declared.Reader.{Reader}
@@ -23,7 +23,6 @@ use Rattle.records.specs.Records.{collectorNumbers, collectorOf, readerOf}
 use Rattle.records.specs.Results.{stepResult, stepLength}
 use Rattle.port.specs.Calls.{CollectedC, collectedBy, collectedC, TookLine, tookLine}
 use Rattle.caller.specs.Lines as row-lines
-use Rattle.caller.specs.Lines.{runIn}
 use Rattle.caller.specs.Lumps.{Calls, over, lined, long, Lumped, none, next, CallerLumps, hearing, RowHears, CallerHears, CallerLumpedRoundTrip}
 use Rattle.caller.proofs.Records.{collector-back}
 use Rattle.caller.proofs.Lines.{one-line}

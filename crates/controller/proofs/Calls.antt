@@ -70,7 +70,8 @@ unfolding after actsOf handled
 calls-history layout first [] = begun
 calls-history layout first (c ∷ calls) =
     let st : State = after layout first calls in
-    went (calls-history layout first calls) (actBy (layout .slot1) st (c .packet) (taking layout st (c .packet) (c .buffer))) (call-fit layout st (c .packet) (c .buffer))
+    went (calls-history layout first calls) (actBy (layout .slot1) st (c .packet) (taking layout st (c .packet) (c .buffer)))
+    (call-fit layout st (c .packet) (c .buffer))
 
 -- the demand, for any list of packets
 pub packet-demand : PacketDemand
@@ -84,7 +85,8 @@ packet-unbroken layout first calls image h closed open-now cut =
 -- two lists of packets, of chunks of one image, leave the same memory wherever they stand open at the same place
 pub packet-same-memory : PacketSameMemory
 packet-same-memory layout image first first′ calls calls′ h closed closed′ alike open-now open-now′ level cut cut′ =
-    same-memory (layout .slot1) image first first′ _ _ _ _ (layout-bounds layout (length (first .memory)) h .upload) closed closed′ alike (calls-history layout first calls) (calls-history layout first′ calls′) open-now
+    same-memory (layout .slot1) image first first′ _ _ _ _ (layout-bounds layout (length (first .memory)) h .upload) closed closed′ alike
+    (calls-history layout first calls) (calls-history layout first′ calls′) open-now
     open-now′ level cut cut′
 
 -- a run is at its end: less than a length is left, or the packet is not whole; or one packet more follows

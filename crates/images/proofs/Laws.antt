@@ -1,7 +1,7 @@
 -- Areas and their entries at each way of their tests, what the entries still to come add to what was found, and that a hash lies in its region.
 -- Assumes nothing.
 use Prim.{Unit}
-use mathlib.Core.Path.{_≡_, refl, sym, ap, subst, _∙_}
+use mathlib.Core.Path.{_≡_, refl, sym, ap, _∙_}
 use mathlib.Core.Bool.{Bool, true, false, not}
 use mathlib.Core.List.{List, [], _∷_}
 use mathlib.Core.Option.{Option, none, some}

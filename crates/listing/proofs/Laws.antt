@@ -1,7 +1,7 @@
 -- The list's parts: decimal digits, a turn of the loop that writes them, the parts in the order in which they are written, and how long each is.
 -- Assumes nothing.
-use mathlib.Core.Path.{_≡_, refl, sym, ap, _∙_}
-use mathlib.Core.List.{List, [], _∷_, _++_, append-assoc}
+use mathlib.Core.Path.{_≡_, refl, sym, ap}
+use mathlib.Core.List.{List, _++_, append-assoc}
 use Prim.Native.Nat.{ℕ, zero, suc, _+_, _-_, _/_, _%_, _^_, _≤_, _<_}
 use native.Mathlib.Nat.{pow-suc, div-div-eq-div-mul, div-one}
 use native.Mathlib.Omega.{arith}
@@ -82,11 +82,12 @@ count-most n =
     (λ g. pick-case P (ltb n 10000) _ _ (λ h. lit< tt) (λ h. lit< tt))))
 
 -- how long a version is
-pub version-length : (major minor revision : ℕ) → length (versionText major minor revision) ≡ digitCount major + digitCount minor + digitCount revision + 2
+pub version-length : (major minor revision : ℕ) → length (versionText major minor revision)
+    ≡ digitCount major + digitCount minor + digitCount revision + 2
 version-length major minor revision = simp (length-append, digits-length) (omega arith)
 
 -- at most 17 bytes
-pub version-most : (major minor revision : ℕ) → length (versionText major minor revision) ≤ 17
+version-most : (major minor revision : ℕ) → length (versionText major minor revision) ≤ 17
 version-most major minor revision =
     omega (arith, version-length major minor revision, count-most major, count-most minor, count-most revision)
 
@@ -138,13 +139,13 @@ text-length : (x : List ℕ) → length x < 24 → length (textOf x) ≡ 1 + len
 text-length x h = rw length-append (omega (arith, head-tiny 3 (length x) h))
 
 -- a hash takes two bytes more than its 32
-pub hash-length : (s : List ℕ) (hash : ℕ) → hash + 32 ≤ length s → length (bytesOf (partOf s hash 32)) ≡ 34
+hash-length : (s : List ℕ) (hash : ℕ) → hash + 32 ≤ length s → length (bytesOf (partOf s hash 32)) ≡ 34
 hash-length s hash h =
     let e : length (partOf s hash 32) ≡ 32 = simp (length-take, length-drop) (omega arith) in
     rw (length-append, e) (omega (arith, head-size 2 32, form-one 32 (lit< tt) (lit< tt) .1))
 
 -- how long the map of an image is, in a slot whose number is below 24
-pub image-length : (number : ℕ) (s : List ℕ) (image : Image) → number < 24 → ImageWithin s image → length (imageMap number s image) ≡ imageLength image
+image-length : (number : ℕ) (s : List ℕ) (image : Image) → number < 24 → ImageWithin s image → length (imageMap number s image) ≡ imageLength image
 unfolding imageMap imageLength
 image-length number s Image.Absent h k = refl
 image-length number s (Image.At major minor revision hash) h k =

@@ -4,7 +4,6 @@
 use Prim.Native.Nat.{ℕ, zero, suc, _+_, _/_, _%_, _^_}
 use mathlib.Core.List.{List, [], _∷_, _++_}
 use lib.Dec.{ltb}
-use lib.ListN.{length}
 use Rattle.laws.specs.Choice.{pick}
 use Rattle.laws.specs.Parts.{partOf}
 use Rattle.cbor.specs.Write.{headOf, unsigned, bytesOf, textOf, mapOf}

@@ -61,7 +61,8 @@ pub went : (r held got lump line : List ℕ) (at : ℕ) (c : Collector) (t : Ste
     → record { result = result; record-after = numbers; held = bytes; line = after; got = n ∷ t .place ∷ [] } ≡ collectedC r held lump at line got
 unfolding collectedC collectedBy
 went r held got lump line at c t after numbers bytes result n ec e er w en enumbers eb =
-    let o : collecting.collect (collectorOf r held) lump at line ≡ collecting.outcome t after = ap (λ (x : Collector). collecting.collect x lump at line) (sym ec) ∙ sym e in
+    let o : collecting.collect (collectorOf r held) lump at line ≡ collecting.outcome t after =
+    ap (λ (x : Collector). collecting.collect x lump at line) (sym ec) ∙ sym e in
     let w2 : wentOn (stepResult (collecting.said (t .got))) ≡ true = ap wentOn (sym er) ∙ w in
     rw (o, w2, pick-yes, er, en, enumbers, eb)
 
@@ -71,6 +72,7 @@ pub stayed : (r held got lump line : List ℕ) (at : ℕ) (c : Collector) (t : S
     → record { result = result; record-after = r; held = held; line = after; got = got } ≡ collectedC r held lump at line got
 unfolding collectedC collectedBy
 stayed r held got lump line at c t after result ec e er w =
-    let o : collecting.collect (collectorOf r held) lump at line ≡ collecting.outcome t after = ap (λ (x : Collector). collecting.collect x lump at line) (sym ec) ∙ sym e in
+    let o : collecting.collect (collectorOf r held) lump at line ≡ collecting.outcome t after =
+    ap (λ (x : Collector). collecting.collect x lump at line) (sym ec) ∙ sym e in
     let w2 : wentOn (stepResult (collecting.said (t .got))) ≡ false = ap wentOn (sym er) ∙ w in
     rw (o, w2, pick-no, er)

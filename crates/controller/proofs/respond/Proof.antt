@@ -2,16 +2,14 @@
 -- Assumes nothing.
 use mathlib.Core.Path.{_≡_, sym, ap, subst, _∙_}
 use mathlib.Core.Bool.{true}
-use Prim.Native.Nat.{ℕ, _<_}
+use Prim.Native.Nat.{ℕ}
 use native.Mathlib.Omega.{arith}
 use lib.ListN.{length}
 use Rattle.laws.proofs.Choice.{both-true}
 use Rattle.slot.specs.Session.{layoutOk, sessionOk, State, stateOf}
 use Rattle.slot.specs.Act.{done}
 use Rattle.slot.proofs.Laws.{layout-bounds}
-use Rattle.smp.specs.Packet.{headerIn}
 use Rattle.smp.proofs.Sound.{request-sized}
-use Rattle.controller.specs.declared.Response.{Response}
 use Rattle.controller.specs.Doing.{actFor, responseFor}
 use Rattle.controller.specs.Inner.{Answerable}
 use Rattle.controller.proofs.Laws.{carried-reset, carried-plain, response-answerable}

@@ -1,10 +1,9 @@
 -- `controller::write_response` meets its contract: each response has its own writer.
 -- Assumes nothing.
-use mathlib.Core.Path.{_≡_, sym, ap, subst, _∙_}
+use mathlib.Core.Path.{_≡_, sym, subst}
 use Prim.Native.Nat.{ℕ, _<_}
 use mathlib.Core.List.{List}
 use Rattle.smp.specs.declared.Header.{Header}
-use Rattle.smp.specs.Packet.{headerIn}
 use Rattle.smp.specs.Inner.{Written}
 use Rattle.controller.specs.declared.Response.{Response}
 use Rattle.controller.specs.Doing.{responseMap}

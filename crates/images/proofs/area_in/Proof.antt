@@ -1,10 +1,8 @@
 -- `images::area_in` meets its contract: the header check comes first, then the header's size, then the area.
 -- Assumes nothing.
-use mathlib.Core.Path.{ap₂, _∙_}
 use borrow.Author.Tests.{lt-ltb, le-ltb, not-true, not-false}
-use Prim.Native.Nat.{ℕ, _+_}
 use Rattle.laws.proofs.Choice.{pick-yes, pick-no}
-use Rattle.images.specs.Image.{areaAfter, areaIn}
+use Rattle.images.specs.Image.{areaIn}
 use borrow.Author.Needs.{needs}
 use Rattle.images.proofs.area_in.Statement.{statement}
 use Rattle.images.proofs.area_in.Tie as tie

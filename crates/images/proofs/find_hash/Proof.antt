@@ -1,11 +1,10 @@
 -- `images::find_hash` meets its contract: each turn takes one entry, and what is still to come settles the rest.
 -- Assumes nothing.
-use mathlib.Core.Path.{_≡_, sym, ap, ap₂, subst, _∙_}
+use mathlib.Core.Path.{_≡_, sym, ap₂, subst, _∙_}
 use Prim.Native.Nat.{ℕ, _+_, _-_, _≤_}
 use native.Mathlib.Omega.{arith}
-use lib.ListN.{length}
 use Rattle.images.specs.declared.Found.{Found}
-use Rattle.images.specs.Image.{Entry, entryAt}
+use Rattle.images.specs.Image.{entryAt}
 use Rattle.images.specs.Inner.{noted}
 use Rattle.images.proofs.Laws.{entries-cut, entries-long, Came, came-none, came-more, came-bad, came-end}
 use borrow.Author.Needs.{needs}

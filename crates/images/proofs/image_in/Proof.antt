@@ -1,9 +1,8 @@
 -- `images::image_in` meets its contract: the area first, then the hash in it.
 -- Assumes nothing.
-use mathlib.Core.Path.{_≡_, sym, ap, ap₂, subst, _∙_}
+use mathlib.Core.Path.{sym, ap, ap₂, subst, _∙_}
 use Prim.Native.Nat.{ℕ}
 use lib.ListN.{getD}
-use Rattle.images.specs.declared.Area.{Area}
 use Rattle.images.specs.declared.Image.{Image}
 use Rattle.images.specs.declared.Found.{Found}
 use Rattle.images.specs.Image.{imageWith}

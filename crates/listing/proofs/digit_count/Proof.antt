@@ -25,19 +25,23 @@ returns-3 c = (
 
 returns-4 : tie.Need-returns-4
 unfolding digitCount
-returns-4 c = (
-  simp (le-ltb _ _ (c .before .before .before .if1 .left), le-ltb _ _ (c .before .before .if2 .left), le-ltb _ _ (c .before .if3 .left), lt-ltb _ _ (c .if4 .taken), pick-yes, pick-no),
-  lit< tt,
-  lit< tt,
-)
+returns-4 c =
+    let t = c .before in
+    let u = t .before in (
+      simp (le-ltb _ _ (u .before .if1 .left), le-ltb _ _ (u .if2 .left), le-ltb _ _ (t .if3 .left), lt-ltb _ _ (c .if4 .taken), pick-yes, pick-no),
+      lit< tt,
+      lit< tt,
+    )
 
 returns-5 : tie.Need-returns-5
 unfolding digitCount
-returns-5 c = (
-  simp (le-ltb _ _ (c .before .before .before .if1 .left), le-ltb _ _ (c .before .before .if2 .left), le-ltb _ _ (c .before .if3 .left), le-ltb _ _ (c .if4 .left), pick-no),
-  lit< tt,
-  lit< tt,
-)
+returns-5 c =
+    let t = c .before in
+    let u = t .before in (
+      simp (le-ltb _ _ (u .before .if1 .left), le-ltb _ _ (u .if2 .left), le-ltb _ _ (t .if3 .left), le-ltb _ _ (c .if4 .left), pick-no),
+      lit< tt,
+      lit< tt,
+    )
 
 pub digit-count-spec : {M : Type 1} → statement M
 digit-count-spec = tie.close (tie.spec returns returns-2 returns-3 returns-4 returns-5)

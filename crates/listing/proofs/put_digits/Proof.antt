@@ -12,7 +12,8 @@ use Rattle.listing.proofs.put_digits.Statement.{statement}
 use Rattle.listing.proofs.put_digits.Tie as tie
 
 abbrev Inv-loop : tie.InvT-loop
-Inv-loop buf₀ at w n v₀ i₀ buf v i = (buf ≡ pasted buf₀ (at + i) (digits (w - i) n)) × (v ≡ n / 10 ^ (w - i)) × (i ≤ w) × (length buf ≡ length buf₀)
+Inv-loop buf₀ at w n v₀ i₀ buf v i =
+    (buf ≡ pasted buf₀ (at + i) (digits (w - i) n)) × (v ≡ n / 10 ^ (w - i)) × (i ≤ w) × (length buf ≡ length buf₀)
 
 abbrev μ-loop : tie.MeasureT-loop
 μ-loop buf₀ at w n v₀ i₀ buf v i = i
@@ -45,8 +46,8 @@ loop-again c =
     let l = c .before in
     let a = l .before .args in
     let i = l .loop .i in (
-      ap₂ (λ (m : List ℕ) (v : ℕ). set m (a .at + (i - 1)) (48 + v % 10)) (l .loop .inv .0) (l .loop .inv .1) ∙ digits-turn (a .buf .now) (a .at) i (a .w)
-          (a .n) (omega arith) (omega arith) (omega arith),
+      ap₂ (λ (m : List ℕ) (v : ℕ). set m (a .at + (i - 1)) (48 + v % 10)) (l .loop .inv .0) (l .loop .inv .1)
+          ∙ digits-turn (a .buf .now) (a .at) i (a .w) (a .n) (omega arith) (omega arith) (omega arith),
       ap (λ (v : ℕ). v / 10) (l .loop .inv .1) ∙ tens-turn (a .n) i (a .w) (omega arith) (omega arith),
       omega arith,
       simp length-set (l .loop .inv .3),

@@ -1,10 +1,9 @@
 -- `listing::put_front` meets its contract: the map's head, its key and the array's head.
 -- Assumes nothing.
-use mathlib.Core.List.{List, _++_}
-use Prim.Native.Nat.{ℕ, _+_, _≤_}
+use mathlib.Core.List.{List}
+use Prim.Native.Nat.{ℕ}
 use native.Mathlib.Omega.{arith}
 use lib.Dec.{lit<}
-use lib.ListN.{length}
 use Rattle.cbor.specs.Write.{textOf, mapOf}
 use Rattle.smp.proofs.Writing.{put-three, room-one, room-two, room-three}
 use Rattle.listing.specs.Listing.{nameImages, arrayOf}
@@ -32,26 +31,25 @@ put-text-requires c κs =
 
 put-head-requires-2 : tie.Need-put-head-requires-2
 put-head-requires-2 c κs =
-    let s = c .before .before .before .before .before .before .before .before .before .before .before in
+    let second = c .before .before .before in
+    let first = second .before .before .before .before .before in
+    let s = first .before .before .before in
     let z : List ℕ = arrayOf (s .args .n) in
-    let room = rw (three-parts (mapOf 1) (textOf nameImages) z) at (s .pre) in (
-      lit< tt,
-      omega (
-        arith,
-        room-three 8 (mapOf 1) (textOf nameImages) z (c .before .before .before .before .before .before .before .before .put-head .ensures .place) (c .before .before .before .put-text .ensures .place) room,
-      ),
-    )
+    let room = rw (three-parts (mapOf 1) (textOf nameImages) z) at (s .pre) in
+    (lit< tt, omega (arith, room-three 8 (mapOf 1) (textOf nameImages) z (first .put-head .ensures .place) (second .put-text .ensures .place) room))
 
 same-length : tie.Need-same-length
 same-length c = search needs
 
 returns : tie.Need-returns
 returns c =
-    let s = c .before .before .before .before .before .before .before .before .before .before .before .before .before .before in
+    let second = c .before .before .before .before .before .before in
+    let first = second .before .before .before .before .before in
+    let s = first .before .before .before in
     let z : List ℕ = arrayOf (s .args .n) in
     let parts = three-parts (mapOf 1) (textOf nameImages) z in
-    rw parts (put-three 8 (mapOf 1) (textOf nameImages) z (rw parts at (s .pre)) (c .before .before .before .before .before .before .before .before .before .before .before .put-head .ensures)
-    (c .before .before .before .before .before .before .put-text .ensures) (c .before .before .put-head2 .ensures))
+    rw parts (put-three 8 (mapOf 1) (textOf nameImages) z (rw parts at (s .pre)) (first .put-head .ensures) (second .put-text .ensures)
+    (c .before .before .put-head2 .ensures))
 
 pub put-front-spec : {M : Type 1} → statement M
 put-front-spec =

@@ -1,6 +1,6 @@
 -- `listing::put_hash` meets its contract: the head of 32 bytes and then the bytes.
 -- Assumes nothing.
-use mathlib.Core.Path.{_≡_, refl}
+use mathlib.Core.Path.{_≡_}
 use mathlib.Core.List.{List}
 use Prim.Native.Nat.{ℕ, _+_, _-_}
 use native.Mathlib.Omega.{arith}
@@ -41,22 +41,24 @@ put-requires c κs =
 
 add-result : tie.Need-add-result
 add-result c =
-    let s = c .before .before .before .before .before .before .before .before .before .before .before in
+    let head = c .before .before .before .before .before .before .before in
+    let s = head .before .before .before .before in
     let t : List ℕ = take (s .args .hash + 32 - s .args .hash) (drop (s .args .hash) (s .args .s .now)) in
     let room = rw (hash-parts (s .args .s .now) (s .args .hash) (s .pre .0)) at (s .pre .1) in
     let size : length t ≡ 32 = simp (length-take, length-drop) (omega (arith, s .pre .0)) in
-    omega (arith, size, room-rest (s .args .at) (headOf 2 32) t (c .before .before .before .before .before .before .before .put-head .ensures .place) room)
+    omega (arith, size, room-rest (s .args .at) (headOf 2 32) t (head .put-head .ensures .place) room)
 
 same-length : tie.Need-same-length
 same-length c = search needs
 
 returns : tie.Need-returns
 returns c =
-    let s = c .before .before .before .before .before .before .before .before .before .before .before in
+    let head = c .before .before .before .before .before .before .before in
+    let s = head .before .before .before .before in
     let t : List ℕ = take (s .args .hash + 32 - s .args .hash) (drop (s .args .hash) (s .args .s .now)) in
     let parts = hash-parts (s .args .s .now) (s .args .hash) (s .pre .0) in
     let size : length t ≡ 32 = simp (length-take, length-drop) (omega (arith, s .pre .0)) in
-    rw parts (put-then (room-first (s .args .at) (headOf 2 32) t (rw parts at (s .pre .1))) (c .before .before .before .before .before .before .before .put-head .ensures)
+    rw parts (put-then (room-first (s .args .at) (headOf 2 32) t (rw parts at (s .pre .1))) (head .put-head .ensures)
     (record { place = omega (arith, size); written = c .before .before .put .ensures }))
 
 pub put-hash-spec : {M : Type 1} → statement M

@@ -44,25 +44,28 @@ slice-aggregate-put-text c = search needs
 
 put-text-requires : tie.Need-put-text-requires
 put-text-requires c κs =
-    let s = c .before .before .before .before .before .before .before .before .before .before .before in
+    let first = c .before .before .before .before in
+    let s = first .before .before .before .before .before .before .before in
     let a = s .args in
-    let g = c .before .before .before .before .before .before .before .image .given in
+    let g = first .before .before .before .image .given in
     let x : List ℕ = namedPart (a .number) (g .0 .0) (g .0 .1 .0) (g .0 .1 .1 .0) in
     let z : List ℕ = bytesOf (partOf (a .s .now) (g .0 .1 .1 .1 .0) 32) in
     let is = image-parts (a .number) (a .s .now) (g .0 .0) (g .0 .1 .0) (g .0 .1 .1 .0) (g .0 .1 .1 .1 .0) in
-    omega (arith, room-two (a .at) x (textOf nameHash) z (c .before .before .before .before .put-named .ensures .place) (rw (g .1, is) at (s .pre .1)))
+    omega (arith, room-two (a .at) x (textOf nameHash) z (first .put-named .ensures .place) (rw (g .1, is) at (s .pre .1)))
 
 put-hash-requires : tie.Need-put-hash-requires
 put-hash-requires c κs =
-    let s = c .before .before .before .before .before .before .before .before .before .before .before .before .before .before .before in
+    let second = c .before .before .before in
+    let first = second .before .before .before .before .before in
+    let s = first .before .before .before .before .before .before .before in
     let a = s .args in
-    let g = c .before .before .before .before .before .before .before .before .before .before .before .image .given in
+    let g = first .before .before .before .image .given in
     let x : List ℕ = namedPart (a .number) (g .0 .0) (g .0 .1 .0) (g .0 .1 .1 .0) in
     let z : List ℕ = bytesOf (partOf (a .s .now) (g .0 .1 .1 .1 .0) 32) in
     let is = image-parts (a .number) (a .s .now) (g .0 .0) (g .0 .1 .0) (g .0 .1 .1 .0) (g .0 .1 .1 .1 .0) in
     let room = rw (g .1, is) at (s .pre .1) in (
       rw (g .1) at (s .pre .0),
-      omega (arith, room-three (a .at) x (textOf nameHash) z (c .before .before .before .before .before .before .before .before .put-named .ensures .place) (c .before .before .before .put-text .ensures .place) room),
+      omega (arith, room-three (a .at) x (textOf nameHash) z (first .put-named .ensures .place) (second .put-text .ensures .place) room),
     )
 
 same-length : tie.Need-same-length
@@ -70,14 +73,17 @@ same-length c = search needs
 
 returns-2 : tie.Need-returns-2
 returns-2 c =
-    let s = c .before .before .before .before .before .before .before .before .before .before .before .before .before .before .before .before .before .before in
+    let second = c .before .before .before .before .before .before in
+    let first = second .before .before .before .before .before in
+    let s = first .before .before .before .before .before .before .before in
     let a = s .args in
-    let g = c .before .before .before .before .before .before .before .before .before .before .before .before .before .before .image .given in
+    let g = first .before .before .before .image .given in
     let x : List ℕ = namedPart (a .number) (g .0 .0) (g .0 .1 .0) (g .0 .1 .1 .0) in
     let z : List ℕ = bytesOf (partOf (a .s .now) (g .0 .1 .1 .1 .0) 32) in
-    let is = ap (λ (i : Image). imageMap (a .number) (a .s .now) i) (g .1)
+    let is =
+    ap (λ (i : Image). imageMap (a .number) (a .s .now) i) (g .1)
     ∙ image-parts (a .number) (a .s .now) (g .0 .0) (g .0 .1 .0) (g .0 .1 .1 .0) (g .0 .1 .1 .1 .0) in
-    rw is (put-three (a .at) x (textOf nameHash) z (rw is at (s .pre .1)) (c .before .before .before .before .before .before .before .before .before .before .before .put-named .ensures) (c .before .before .before .before .before .before .put-text .ensures)
+    rw is (put-three (a .at) x (textOf nameHash) z (rw is at (s .pre .1)) (first .put-named .ensures) (second .put-text .ensures)
     (c .before .before .put-hash .ensures))
 
 pub put-image-spec : {M : Type 1} → statement M

@@ -38,26 +38,31 @@ slice-aggregate-put-text c = search needs
 
 put-text-requires : tie.Need-put-text-requires
 put-text-requires c κs =
-    let s = c .before .before .before .before .before .before .before .before .before .before .before .before in
+    let second = c .before .before .before .before in
+    let first = second .before .before .before .before .before in
+    let s = first .before .before .before in
     let y : List ℕ = textOf nameSlot ++ unsigned (s .args .number) in
     let t : List ℕ = textOf (versionText (s .args .major) (s .args .minor) (s .args .revision)) in
     let room = rw (four-parts (mapOf 3) y (textOf nameVersion) t) at (s .pre) in
     let inner = room-first (s .args .at) ((mapOf 3 ++ y) ++ textOf nameVersion) t room in
     omega (
       arith,
-      room-three (s .args .at) (mapOf 3) y (textOf nameVersion) (c .before .before .before .before .before .before .before .before .before .put-head .ensures .place) (c .before .before .before .before .put-number .ensures .place) inner,
+      room-three (s .args .at) (mapOf 3) y (textOf nameVersion) (first .put-head .ensures .place) (second .put-number .ensures .place) inner,
     )
 
 put-version-text-requires : tie.Need-put-version-text-requires
 put-version-text-requires c κs =
-    let s = c .before .before .before .before .before .before .before .before .before .before .before .before .before .before .before .before in
+    let third = c .before .before .before in
+    let second = third .before .before .before .before .before in
+    let first = second .before .before .before .before .before in
+    let s = first .before .before .before in
     let y : List ℕ = textOf nameSlot ++ unsigned (s .args .number) in
     let t : List ℕ = textOf (versionText (s .args .major) (s .args .minor) (s .args .revision)) in
     let room = rw (four-parts (mapOf 3) y (textOf nameVersion) t) at (s .pre) in
     let inner = room-first (s .args .at) ((mapOf 3 ++ y) ++ textOf nameVersion) t room in
     let front =
-    put-three (s .args .at) (mapOf 3) y (textOf nameVersion) inner (c .before .before .before .before .before .before .before .before .before .before .before .before .before .put-head .ensures) (c .before .before .before .before .before .before .before .before .put-number .ensures)
-    (c .before .before .before .put-text .ensures) in
+    put-three (s .args .at) (mapOf 3) y (textOf nameVersion) inner (first .put-head .ensures) (second .put-number .ensures)
+    (third .put-text .ensures) in
     omega (arith, room-rest (s .args .at) ((mapOf 3 ++ y) ++ textOf nameVersion) t (front .place) room)
 
 same-length : tie.Need-same-length
@@ -65,14 +70,17 @@ same-length c = search needs
 
 returns : tie.Need-returns
 returns c =
-    let s = c .before .before .before .before .before .before .before .before .before .before .before .before .before .before .before .before .before .before .before in
+    let third = c .before .before .before .before .before .before in
+    let second = third .before .before .before .before .before in
+    let first = second .before .before .before .before .before in
+    let s = first .before .before .before in
     let y : List ℕ = textOf nameSlot ++ unsigned (s .args .number) in
     let t : List ℕ = textOf (versionText (s .args .major) (s .args .minor) (s .args .revision)) in
     let parts = four-parts (mapOf 3) y (textOf nameVersion) t in
     let inner = room-first (s .args .at) ((mapOf 3 ++ y) ++ textOf nameVersion) t (rw parts at (s .pre)) in
     let front =
-    put-three (s .args .at) (mapOf 3) y (textOf nameVersion) inner (c .before .before .before .before .before .before .before .before .before .before .before .before .before .before .before .before .put-head .ensures) (c .before .before .before .before .before .before .before .before .before .before .before .put-number .ensures)
-    (c .before .before .before .before .before .before .put-text .ensures) in
+    put-three (s .args .at) (mapOf 3) y (textOf nameVersion) inner (first .put-head .ensures) (second .put-number .ensures)
+    (third .put-text .ensures) in
     rw parts (put-then inner front (c .before .before .put-version-text .ensures))
 
 pub put-named-spec : {M : Type 1} → statement M

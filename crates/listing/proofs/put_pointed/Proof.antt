@@ -1,8 +1,7 @@
 -- `listing::put_pointed` meets its contract: the number and then one byte, the point.
 -- Assumes nothing.
 use mathlib.Core.Path.{refl}
-use mathlib.Core.List.{List, [], _∷_}
-use Prim.Native.Nat.{ℕ}
+use mathlib.Core.List.{[], _∷_}
 use native.Mathlib.Omega.{arith}
 use Rattle.laws.proofs.Lists.{set-pasted}
 use Rattle.smp.proofs.Writing.{put-then, room-first, room-rest}

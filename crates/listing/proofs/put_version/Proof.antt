@@ -28,24 +28,29 @@ put-pointed-requires-2 c κs =
 
 put-decimal-requires : tie.Need-put-decimal-requires
 put-decimal-requires c κs =
-    let s = c .before .before .before .before .before .before .before .before .before .before in
+    let second = c .before .before .before in
+    let first = second .before .before .before .before in
+    let s = first .before .before .before in
     let x : List ℕ = decimal (s .args .major) ++ (0x2E ∷ []) in
     let y : List ℕ = decimal (s .args .minor) ++ (0x2E ∷ []) in
     let z : List ℕ = decimal (s .args .revision) in
     let room = rw (three-parts x y z) at (s .pre) in
-    omega (arith, room-three (s .args .at) x y z (c .before .before .before .before .before .before .before .put-pointed .ensures .place) (c .before .before .before .put-pointed2 .ensures .place) room)
+    omega (arith, room-three (s .args .at) x y z (first .put-pointed .ensures .place) (second .put-pointed2 .ensures .place) room)
 
 same-length : tie.Need-same-length
 same-length c = search needs
 
 returns : tie.Need-returns
 returns c =
-    let s = c .before .before .before .before .before .before .before .before .before .before .before .before .before in
+    let second = c .before .before .before .before .before .before in
+    let first = second .before .before .before .before in
+    let s = first .before .before .before in
     let x : List ℕ = decimal (s .args .major) ++ (0x2E ∷ []) in
     let y : List ℕ = decimal (s .args .minor) ++ (0x2E ∷ []) in
     let z : List ℕ = decimal (s .args .revision) in
-    rw (three-parts x y z) (put-three (s .args .at) x y z (rw (three-parts x y z) at (s .pre)) (c .before .before .before .before .before .before .before .before .before .before .put-pointed .ensures)
-    (c .before .before .before .before .before .before .put-pointed2 .ensures) (c .before .before .put-decimal .ensures))
+    let room = rw (three-parts x y z) at (s .pre) in
+    rw (three-parts x y z) (put-three (s .args .at) x y z room (first .put-pointed .ensures) (second .put-pointed2 .ensures)
+    (c .before .before .put-decimal .ensures))
 
 pub put-version-spec : {M : Type 1} → statement M
 put-version-spec =

@@ -25,9 +25,11 @@ put-head-requires c κs =
 
 put-version-requires : tie.Need-put-version-requires
 put-version-requires c κs =
-    let s = c .before .before .before .before .before .before .before in
+    let head = c .before .before .before in
+    let s = head .before .before .before .before in
     let v : List ℕ = versionText (s .args .major) (s .args .minor) (s .args .revision) in
-    let place = c .before .before .before .put-head .ensures .place ∙ ap (λ (k : ℕ). s .args .at + length (headOf 3 k)) (c .before .before .before .before .before .version-len .ensures .0) in
+    let size = head .before .before .version-len .ensures .0 in
+    let place = head .put-head .ensures .place ∙ ap (λ (k : ℕ). s .args .at + length (headOf 3 k)) size in
     omega (arith, room-rest (s .args .at) (headOf 3 (length v)) v place (s .pre))
 
 same-length : tie.Need-same-length
@@ -35,10 +37,12 @@ same-length c = search needs
 
 returns : tie.Need-returns
 returns c =
-    let s = c .before .before .before .before .before .before .before .before .before .before in
+    let head = c .before .before .before .before .before .before in
+    let s = head .before .before .before .before in
     let v : List ℕ = versionText (s .args .major) (s .args .minor) (s .args .revision) in
-    put-then (room-first (s .args .at) (headOf 3 (length v)) v (s .pre)) (rw (c .before .before .before .before .before .before .before .before .version-len .ensures .0) at (c .before .before .before .before .before .before .put-head .ensures))
-    (c .before .before .put-version .ensures)
+    let size = head .before .before .version-len .ensures .0 in
+    let room = room-first (s .args .at) (headOf 3 (length v)) v (s .pre) in
+    put-then room (rw size at (head .put-head .ensures)) (c .before .before .put-version .ensures)
 
 pub put-version-text-spec : {M : Type 1} → statement M
 put-version-text-spec =

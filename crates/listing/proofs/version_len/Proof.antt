@@ -1,6 +1,6 @@
 -- `listing::version_len` meets its contract: the digits of the three numbers and two points.
 -- Assumes nothing.
-use mathlib.Core.Path.{_≡_, ap, _∙_}
+use mathlib.Core.Path.{ap, _∙_}
 use native.Mathlib.Omega.{arith}
 use Rattle.listing.specs.Listing.{digitCount}
 use Rattle.listing.proofs.Laws.{version-length}

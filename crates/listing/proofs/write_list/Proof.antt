@@ -45,26 +45,33 @@ same-length c = search needs
 
 returns : tie.Need-returns
 returns c =
-    let a = c .before .before .before .before .before .before .before .before .before .before .before .before .before .args in
+    let t = c .before .before .before .before .before in
+    let i2 = t .before .before in
+    let i1 = i2 .before in
+    let a = i1 .before .before .before .before .before .args in
     let m : List ℕ = listMap (a .memory .now) (a .layout) in
-    let first = c .before .before .before .before .before .before .image-len .ensures .0 ∙ ap imageLength (c .before .before .before .before .before .before .before .before .image-at .ensures .0) in
-    let second = c .before .before .before .before .before .image-len2 .ensures .0 ∙ ap imageLength (c .before .before .before .before .before .before .before .image-at2 .ensures .0) in
-    written-seven (a .h) m (a .buf .now) _ _
-    (lt-ltb (length (a .buf .now)) (8 + length m) (omega (arith, first, second, list-long (a .memory .now) (a .layout), c .before .before .before .before .if1 .taken))) (c .before .before .put-too-long .ensures)
+    let first = t .before .image-len .ensures .0 ∙ ap imageLength (i1 .image-at .ensures .0) in
+    let second = t .image-len2 .ensures .0 ∙ ap imageLength (i2 .image-at2 .ensures .0) in
+    let long = list-long (a .memory .now) (a .layout) in
+    let test = lt-ltb (length (a .buf .now)) (8 + length m) (omega (arith, first, second, long, c .before .before .before .before .if1 .taken)) in
+    written-seven (a .h) m (a .buf .now) _ _ test (c .before .before .put-too-long .ensures)
 
 put-list-requires : tie.Need-put-list-requires
 put-list-requires c κs =
-    let s = c .before .before .before .before .before .before .before .before .before .before in
+    let t = c .before .before in
+    let i2 = t .before .before in
+    let i1 = i2 .before in
+    let s = i1 .before .before .before .before .before in
     let a = s .args in
-    let first = c .before .before .before .image-len .ensures .0 ∙ ap imageLength (c .before .before .before .before .before .image-at .ensures .0) in
-    let second = c .before .before .image-len2 .ensures .0 ∙ ap imageLength (c .before .before .before .before .image-at2 .ensures .0) in (
+    let first = t .before .image-len .ensures .0 ∙ ap imageLength (i1 .image-at .ensures .0) in
+    let second = t .image-len2 .ensures .0 ∙ ap imageLength (i2 .image-at2 .ensures .0) in (
       s .pre .1 .0,
       (
         s .pre .1 .1,
         (
-          (c .before .before .before .before .before .image-at .ensures .0, c .before .before .before .before .image-at2 .ensures .0),
+          (i1 .image-at .ensures .0, i2 .image-at2 .ensures .0),
           (
-            (c .before .before .before .before .before .image-at .ensures .1, c .before .before .before .before .image-at2 .ensures .1),
+            (i1 .image-at .ensures .1, i2 .image-at2 .ensures .1),
             omega (arith, first, second, list-long (a .memory .now) (a .layout), c .before .if1 .left),
           ),
         ),
@@ -76,12 +83,16 @@ same-length-2 c = search needs
 
 returns-2 : tie.Need-returns-2
 returns-2 c =
-    let a = c .before .before .before .before .before .before .before .before .before .before .before .before .before .args in
+    let t = c .before .before .before .before .before in
+    let i2 = t .before .before in
+    let i1 = i2 .before in
+    let a = i1 .before .before .before .before .before .args in
     let m : List ℕ = listMap (a .memory .now) (a .layout) in
-    let first = c .before .before .before .before .before .before .image-len .ensures .0 ∙ ap imageLength (c .before .before .before .before .before .before .before .before .image-at .ensures .0) in
-    let second = c .before .before .before .before .before .image-len2 .ensures .0 ∙ ap imageLength (c .before .before .before .before .before .before .before .image-at2 .ensures .0) in
-    written-whole (a .h) m (a .buf .now) _ _
-    (le-ltb (length (a .buf .now)) (8 + length m) (omega (arith, first, second, list-long (a .memory .now) (a .layout), c .before .before .before .before .if1 .left))) (c .before .before .put-list .ensures)
+    let first = t .before .image-len .ensures .0 ∙ ap imageLength (i1 .image-at .ensures .0) in
+    let second = t .image-len2 .ensures .0 ∙ ap imageLength (i2 .image-at2 .ensures .0) in
+    let long = list-long (a .memory .now) (a .layout) in
+    let test = le-ltb (length (a .buf .now)) (8 + length m) (omega (arith, first, second, long, c .before .before .before .before .if1 .left)) in
+    written-whole (a .h) m (a .buf .now) _ _ test (c .before .before .put-list .ensures)
 
 pub write-list-spec : {M : Type 1} → statement M
 write-list-spec =

@@ -48,10 +48,13 @@ enum-known-said c = search needs
 
 store-session-requires : tie.Need-store-session-requires
 store-session-requires c κs =
-    let a = c .before .before .before .before .before .before .before .before .before .before .before .before .before .before .before .before .before .before .before .before .before .before .before .before .before .before .args in
-    let h = c .before .before .before .before .before .before .before .before .before .handle-packet in
-    let before = c .before .before .before .before .before .before .before .before .before .before .before .before .before .before .before .before .before .before .session-from in
-    let layout = c .before .before .before .before .before .before .before .before .before .before .before .before .before .layout-from in
+    let handled = c .before .before .before .before .before .before .before .before .before in
+    let h = handled .handle-packet in
+    let regions = handled .before .before .before .before in
+    let layout = regions .layout-from in
+    let read = regions .before .before .before .before .before in
+    let before = read .session-from in
+    let a = read .before .before .before .before .before .before .before .before .args in
     let small =
     given-small (layout .result) (stateOf (a .memory .now) (a .tag .now) (before .result)) (a .packet .now) (a .reply .now) (h .result)
     (h .last .1 .1 .1 .0) (h .last .1 .1 .0) (h .last .1 .1 .1 .1 .1 .0) (h .ensures) (before .ensures .1) in
@@ -59,10 +62,13 @@ store-session-requires c κs =
 
 cast-t47 : tie.Need-cast-t47
 cast-t47 c =
-    let a = c .before .before .before .before .before .before .before .before .before .before .before .before .before .before .before .before .before .before .before .before .before .before .before .before .before .before .before .args in
-    let h = c .before .before .before .before .before .before .before .before .before .before .handle-packet in
-    let before = c .before .before .before .before .before .before .before .before .before .before .before .before .before .before .before .before .before .before .before .session-from in
-    let layout = c .before .before .before .before .before .before .before .before .before .before .before .before .before .before .layout-from in
+    let handled = c .before .before .before .before .before .before .before .before .before .before in
+    let h = handled .handle-packet in
+    let regions = handled .before .before .before .before in
+    let layout = regions .layout-from in
+    let read = regions .before .before .before .before .before in
+    let before = read .session-from in
+    let a = read .before .before .before .before .before .before .before .before .args in
     let small =
     given-small (layout .result) (stateOf (a .memory .now) (a .tag .now) (before .result)) (a .packet .now) (a .reply .now) (h .result)
     (h .last .1 .1 .1 .0) (h .last .1 .1 .0) (h .last .1 .1 .1 .1 .1 .0) (h .ensures) (before .ensures .1) in
@@ -76,10 +82,13 @@ same-length-2 c = search needs
 
 returns : tie.Need-returns
 returns c =
-    let a = c .before .before .before .before .before .before .before .before .before .before .before .before .before .before .before .before .before .before .before .before .before .before .before .before .before .before .before .before .args in
-    let h = c .before .before .before .before .before .before .before .before .before .before .before .handle-packet in
-    let before = c .before .before .before .before .before .before .before .before .before .before .before .before .before .before .before .before .before .before .before .before .session-from in
-    let layout = c .before .before .before .before .before .before .before .before .before .before .before .before .before .before .before .layout-from in
+    let handled = c .before .before .before .before .before .before .before .before .before .before .before in
+    let h = handled .handle-packet in
+    let regions = handled .before .before .before .before in
+    let layout = regions .layout-from in
+    let read = regions .before .before .before .before .before in
+    let before = read .session-from in
+    let a = read .before .before .before .before .before .before .before .before .args in
     handled-replied (a .«record» .now) (a .answer .now) (h .result) (h .last .1 .1 .1 .0) (h .last .1 .1 .0) (h .last .1 .1 .1 .1 .1 .0)
     (c .before .before .before .before .said .given .0 .0) (c .before .store-session .last .0)
     (c .before .before .before .before .said .given .1) (c .before .store-session .ensures)
@@ -92,10 +101,13 @@ enum-known-said-2 c = search needs
 
 store-session-requires-2 : tie.Need-store-session-requires-2
 store-session-requires-2 c κs =
-    let a = c .before .before .before .before .before .before .before .before .before .before .before .before .before .before .before .before .before .before .before .before .before .before .before .before .before .before .args in
-    let h = c .before .before .before .before .before .before .before .before .before .handle-packet in
-    let before = c .before .before .before .before .before .before .before .before .before .before .before .before .before .before .before .before .before .before .session-from in
-    let layout = c .before .before .before .before .before .before .before .before .before .before .before .before .before .layout-from in
+    let handled = c .before .before .before .before .before .before .before .before .before in
+    let h = handled .handle-packet in
+    let regions = handled .before .before .before .before in
+    let layout = regions .layout-from in
+    let read = regions .before .before .before .before .before in
+    let before = read .session-from in
+    let a = read .before .before .before .before .before .before .before .before .args in
     let small =
     given-small (layout .result) (stateOf (a .memory .now) (a .tag .now) (before .result)) (a .packet .now) (a .reply .now) (h .result)
     (h .last .1 .1 .1 .0) (h .last .1 .1 .0) (h .last .1 .1 .1 .1 .1 .0) (h .ensures) (before .ensures .1) in
@@ -103,10 +115,13 @@ store-session-requires-2 c κs =
 
 cast-t50 : tie.Need-cast-t50
 cast-t50 c =
-    let a = c .before .before .before .before .before .before .before .before .before .before .before .before .before .before .before .before .before .before .before .before .before .before .before .before .before .before .before .args in
-    let h = c .before .before .before .before .before .before .before .before .before .before .handle-packet in
-    let before = c .before .before .before .before .before .before .before .before .before .before .before .before .before .before .before .before .before .before .before .session-from in
-    let layout = c .before .before .before .before .before .before .before .before .before .before .before .before .before .before .layout-from in
+    let handled = c .before .before .before .before .before .before .before .before .before .before in
+    let h = handled .handle-packet in
+    let regions = handled .before .before .before .before in
+    let layout = regions .layout-from in
+    let read = regions .before .before .before .before .before in
+    let before = read .session-from in
+    let a = read .before .before .before .before .before .before .before .before .args in
     let small =
     given-small (layout .result) (stateOf (a .memory .now) (a .tag .now) (before .result)) (a .packet .now) (a .reply .now) (h .result)
     (h .last .1 .1 .1 .0) (h .last .1 .1 .0) (h .last .1 .1 .1 .1 .1 .0) (h .ensures) (before .ensures .1) in
@@ -120,10 +135,13 @@ same-length-4 c = search needs
 
 returns-2 : tie.Need-returns-2
 returns-2 c =
-    let a = c .before .before .before .before .before .before .before .before .before .before .before .before .before .before .before .before .before .before .before .before .before .before .before .before .before .before .before .before .args in
-    let h = c .before .before .before .before .before .before .before .before .before .before .before .handle-packet in
-    let before = c .before .before .before .before .before .before .before .before .before .before .before .before .before .before .before .before .before .before .before .before .session-from in
-    let layout = c .before .before .before .before .before .before .before .before .before .before .before .before .before .before .before .layout-from in
+    let handled = c .before .before .before .before .before .before .before .before .before .before .before in
+    let h = handled .handle-packet in
+    let regions = handled .before .before .before .before in
+    let layout = regions .layout-from in
+    let read = regions .before .before .before .before .before in
+    let before = read .session-from in
+    let a = read .before .before .before .before .before .before .before .before .args in
     handled-reset (a .«record» .now) (a .answer .now) (h .result) (h .last .1 .1 .1 .0) (h .last .1 .1 .0) (h .last .1 .1 .1 .1 .1 .0)
     (c .before .before .before .before .said2 .given .0 .0) (c .before .store-session2 .last .0)
     (c .before .before .before .before .said2 .given .1) (c .before .store-session2 .ensures)
@@ -145,10 +163,13 @@ same-length-6 c = search needs
 
 returns-3 : tie.Need-returns-3
 returns-3 c =
-    let a = c .before .before .before .before .before .before .before .before .before .before .before .before .before .before .before .before .before .before .before .before .before .before .before .before .before .before .args in
-    let h = c .before .before .before .before .before .before .before .before .before .handle-packet in
-    let before = c .before .before .before .before .before .before .before .before .before .before .before .before .before .before .before .before .before .before .session-from in
-    let layout = c .before .before .before .before .before .before .before .before .before .before .before .before .before .layout-from in
+    let handled = c .before .before .before .before .before .before .before .before .before in
+    let h = handled .handle-packet in
+    let regions = handled .before .before .before .before in
+    let layout = regions .layout-from in
+    let read = regions .before .before .before .before .before in
+    let before = read .session-from in
+    let a = read .before .before .before .before .before .before .before .before .args in
     handled-refused (a .«record» .now) (a .answer .now) (h .result) (h .last .1 .1 .1 .0) (h .last .1 .1 .0) (h .last .1 .1 .1 .1 .1 .0)
     (c .number .result) (c .before .before .said3 .given .0 .0)
     (c .before .before .said3 .given .1) (c .number .ensures)

@@ -17,9 +17,11 @@ same-length c = search needs
 
 returns : tie.Need-returns
 returns c =
-    let a = c .before .before .before .before .before .before .before .before .before .before .args in
-    packet-put (a .h) (replyMap (a .s .now) (a .reply)) (c .before .before .before .before .before .before .put-map .result) (c .before .before .before .before .before .before .before .before .before .before .pre .1 .1)
-    (c .before .before .before .before .before .before .put-map .ensures) (c .before .before .put-reply-header .ensures)
+    let first = c .before .before .before .before .before .before in
+    let begun = first .before .before .before .before in
+    let a = begun .args in
+    packet-put (a .h) (replyMap (a .s .now) (a .reply)) (first .put-map .result) (begun .pre .1 .1) (first .put-map .ensures)
+    (c .before .before .put-reply-header .ensures)
 
 pub put-reply-spec : {M : Type 1} → statement M
 put-reply-spec =
