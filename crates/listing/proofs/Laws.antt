@@ -1,16 +1,19 @@
 -- The list's parts: decimal digits, a turn of the loop that writes them, the parts in the order in which they are written, and how long each is.
 -- Assumes nothing.
+use Prim.{Unit}
 use mathlib.Core.Path.{_≡_, refl, sym, ap}
+use mathlib.Core.Option.{Option, none, some}
 use mathlib.Core.List.{List, _++_, append-assoc}
 use Prim.Native.Nat.{ℕ, zero, suc, _+_, _-_, _/_, _%_, _^_, _≤_, _<_}
 use native.Mathlib.Nat.{pow-suc, div-div-eq-div-mul, div-one}
 use native.Mathlib.Omega.{arith}
 use lib.Dec.{ltb, lit<}
+use borrow.Author.Tests.{ltb-false}
 use lib.ListN.{length, take, drop, set, length-append, length-take, length-drop}
-use Rattle.laws.specs.Bytes.{pasted}
+use Rattle.laws.specs.Bytes.{Bytes, pasted}
 use Rattle.laws.specs.Parts.{partOf}
 use Rattle.laws.proofs.Choice.{pick-case}
-use Rattle.laws.proofs.Lists.{pasted-none}
+use Rattle.laws.proofs.Lists.{pasted-none, bytes-take, bytes-drop}
 use Rattle.cbor.specs.Write.{headOf, unsigned, bytesOf, textOf, mapOf}
 use Rattle.cbor.proofs.Laws.{head-size, form-one}
 use Rattle.cbor.proofs.Numbers.{pasted-before}
@@ -20,6 +23,8 @@ use Rattle.slot.specs.declared.Layout.{Layout}
 use Rattle.slot.specs.History.{slotIn}
 use Rattle.smp.proofs.Writing.{head-tiny}
 use Rattle.images.specs.declared.Image.{Image}
+use Rattle.images.specs.declared.Area.{Area}
+use Rattle.images.specs.Image.{areaIn, entries, hashOf, imageWith, imageOf, imageIn}
 use Rattle.images.specs.Inner.{ImageWithin}
 use Rattle.images.proofs.Laws.{image-within}
 use Rattle.listing.specs.Listing.{
@@ -34,6 +39,7 @@ use Rattle.listing.specs.Listing.{
   imageCount,
   imageAt,
   listMap,
+  ListFits,
 }
 use Rattle.listing.specs.Inner.{namedPart, imageLength, listFront}
 
@@ -166,12 +172,6 @@ image-length number s (Image.At major minor revision hash) h k =
         ≡ length a + length b + length c + length d + length e + length f + length g
     sums a b c d e f g = simp length-append (omega arith)
 
--- at most 72 bytes
-image-most : (image : Image) → imageLength image ≤ 72
-unfolding imageLength
-image-most Image.Absent = omega arith
-image-most (Image.At major minor revision hash) = omega (arith, version-most major minor revision)
-
 -- a slot has at most one image
 one-image : (image : Image) → imageCount image ≤ 1
 unfolding imageCount
@@ -199,6 +199,55 @@ list-long m layout =
     sums : (a b c d e : List ℕ) → length (a ++ (b ++ (c ++ (d ++ e)))) ≡ length a + length b + length c + length d + length e
     sums a b c d e = simp length-append (omega arith)
 
--- at most 153 bytes
+-- a byte has at most three digits
+byte-digits : (n : ℕ) → n < 256 → digitCount n ≤ 3
+unfolding digitCount
+byte-digits n h =
+    let P : ℕ → Type 0 = λ k. k ≤ 3 in
+    pick-case P (ltb n 10) _ _ (λ e. lit< tt)
+    (λ e. pick-case P (ltb n 100) _ _ (λ f. lit< tt)
+    (λ f. pick-case P (ltb n 1000) _ _ (λ g. lit< tt) (λ g. absurd (omega (arith, ltb-false n 1000 g)))))
+
+-- an image's major and minor number are bytes where its region's are
+abbrev Numbered : Image → Type 0
+Numbered Image.Absent = Unit {0}
+Numbered (Image.At major minor revision hash) = (major < 256) × (minor < 256)
+
+image-numbered : (s : List ℕ) → Bytes s → Numbered (imageIn s)
+unfolding imageOf imageWith
+image-numbered s bytes = by-area (areaIn s)
+  where
+    by-hash : (x : Option ℕ) → Numbered (imageWith s x)
+    by-hash none = tt
+    by-hash (some hash) = (bytes 20, bytes 21)
+
+    by-area : (a : Area) → Numbered (imageOf s a)
+    by-area Area.Absent = tt
+    by-area (Area.At start stop) = by-hash (hashOf (entries s start stop))
+
+-- so its map has at most 68 bytes
+image-most : (image : Image) → Numbered image → imageLength image ≤ 68
+unfolding imageLength
+image-most Image.Absent h = omega arith
+image-most (Image.At major minor revision hash) h =
+    omega (arith, version-length major minor revision, byte-digits major (h .0), byte-digits minor (h .1), count-most revision)
+
+-- and the reply with a list at most 153
+pub list-fits : ListFits
+list-fits m layout bytes =
+    let slot : (r : Slot) → Bytes (slotIn r m) = λ r. bytes-take (r .size) (drop (r .start) m) (bytes-drop (r .start) m bytes) in
+    omega (
+      arith,
+      list-long m layout,
+      image-most (imageAt m (layout .slot0)) (image-numbered (slotIn (layout .slot0) m) (slot (layout .slot0))),
+      image-most (imageAt m (layout .slot1)) (image-numbered (slotIn (layout .slot1) m) (slot (layout .slot1))),
+    )
+
+-- whatever stands in the memory, a list's map is short
 pub list-length : (m : List ℕ) (layout : Layout) → length (listMap m layout) ≤ 153
-list-length m layout = omega (arith, list-long m layout, image-most (imageAt m (layout .slot0)), image-most (imageAt m (layout .slot1)))
+unfolding imageLength
+list-length m layout = omega (arith, list-long m layout, short (imageAt m (layout .slot0)), short (imageAt m (layout .slot1)))
+  where
+    short : (image : Image) → imageLength image ≤ 72
+    short Image.Absent = omega arith
+    short (Image.At major minor revision hash) = omega (arith, version-most major minor revision)

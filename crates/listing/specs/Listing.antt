@@ -1,10 +1,12 @@
 -- The list of images: "The reply is {"images": [...]} without "rc". Each valid image gives slot, version as major.minor.revision, and hash, in
 -- that order; others are skipped."
 -- Assumes nothing.
-use Prim.Native.Nat.{ℕ, zero, suc, _+_, _/_, _%_, _^_}
+use Prim.Native.Nat.{ℕ, zero, suc, _+_, _/_, _%_, _^_, _≤_}
 use mathlib.Core.List.{List, [], _∷_, _++_}
 use lib.Dec.{ltb}
+use lib.ListN.{length}
 use Rattle.laws.specs.Choice.{pick}
+use Rattle.laws.specs.Bytes.{Bytes}
 use Rattle.laws.specs.Parts.{partOf}
 use Rattle.cbor.specs.Write.{headOf, unsigned, bytesOf, textOf, mapOf}
 use Rattle.map.specs.Keys.{nameSlot}
@@ -70,3 +72,7 @@ listMap m layout =
     ++ (textOf nameImages
     ++ (arrayOf (imageCount (imageAt m (layout .slot0)) + imageCount (imageAt m (layout .slot1)))
     ++ (imageMap 0 (slotIn (layout .slot0) m) (imageAt m (layout .slot0)) ++ imageMap 1 (slotIn (layout .slot1) m) (imageAt m (layout .slot1)))))
+
+-- a list of the images in any memory of bytes is a reply of at most 153 bytes, its header counted
+abbrev pub ListFits : Type 0
+ListFits = (m : List ℕ) (layout : Layout) → Bytes m → 8 + length (listMap m layout) ≤ 153
