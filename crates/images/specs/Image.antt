@@ -24,8 +24,8 @@ le32At s at = le16At s at + le16At s (at + 2) * 65536
 unfoldable pub headerOk : List ℕ → Bool
 headerOk s = both (eqb (le32At s 0) 0x96F3B83D) (both (eqb (le32At s 4) 0) (both (eqb (le16At s 10) 0) (eqb (le32At s 16) 0)))
 
--- the area after header and body, which end at a place: where its entries stand. It has its head, a magic number and a total size, in the region;
--- the magic number is 6907 hex; the total counts the head and ends in the region
+-- the area after header and body, which end at a place: where its entries stand. Its head, a magic number and a total size, lies in the region, so
+-- header and body fit it too; the magic number is 6907 hex; the total counts the head and ends in the region
 unfoldable pub areaAfter : List ℕ → ℕ → Area
 areaAfter s end =
     pick (ltb (length s) (end + 4)) Area.Absent
@@ -77,6 +77,7 @@ onlyHash [] = none
 onlyHash (e ∷ []) = pick (eqb (e .size) 32) (some (e .place)) none
 onlyHash (e ∷ f ∷ es) = none
 
+-- the same of entries that may not be well formed
 unfoldable pub hashOf : Option (List Entry) → Option ℕ
 hashOf none = none
 hashOf (some es) = onlyHash (hashes es)

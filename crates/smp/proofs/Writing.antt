@@ -26,7 +26,8 @@ use Rattle.smp.specs.Inner.{Written}
 use Rattle.smp.proofs.Headers.{header-length}
 
 -- what is written where a first list ended stands joined to it
-pub put-then : {b₀ b₁ b₂ : List ℕ} {at r₁ r₂ : ℕ} {x y : List ℕ} → at + length x ≤ length b₀ → Put r₁ b₁ b₀ at x → Put r₂ b₂ b₁ r₁ y → Put r₂ b₂ b₀ at (x ++ y)
+pub put-then : {b₀ b₁ b₂ : List ℕ} {at r₁ r₂ : ℕ} {x y : List ℕ} → at + length x ≤ length b₀ → Put r₁ b₁ b₀ at x → Put r₂ b₂ b₁ r₁ y
+    → Put r₂ b₂ b₀ at (x ++ y)
 put-then {b₀} {b₁} {b₂} {at} {r₁} {r₂} {x} {y} room p q =
     record {
       place = rw length-append (omega (arith, p .place, q .place));
