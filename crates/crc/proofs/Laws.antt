@@ -1,10 +1,9 @@
 -- Laws of the CRC: a list cut in two, and a register that stays below 65,536.
 -- Assumes nothing.
-use mathlib.Core.Path.{_≡_, refl, ap}
+use mathlib.Core.Path.{_≡_, refl}
 use mathlib.Core.List.{List, [], _∷_, _++_}
-use Prim.Native.Nat.{ℕ, zero, suc, _+_, _-_, _*_, _%_, _<_}
+use Prim.Native.Nat.{ℕ, zero, suc, _+_, _*_, _%_, _<_}
 use native.Mathlib.Omega.{arith}
-use native.Mathlib.Nat.{not-suc-le-zero}
 use native.Mathlib.Numerals.{add-one}
 use lib.Dec.{ltb, lit<}
 use lib.ListN.{length, getD, drop}
@@ -22,20 +21,6 @@ unfolding onward
 onward-join c [] t = refl
 onward-join c (b ∷ s) t = onward-join (byte c b) s t
 
--- no bits left
-pub bits-none : (c : ℕ) → bits 0 c ≡ c
-unfolding bits
-bits-none c = refl
-
--- one bit of those left
-pub bits-turn : (n c : ℕ) → 0 < n → bits (n - 1) (shifted c) ≡ bits n c
-unfolding bits
-bits-turn zero c h = absurd (not-suc-le-zero h)
-bits-turn (suc n) c h = ap (λ (k : ℕ). bits k (shifted c)) (add-sub-cancel-one n)
-  where
-    add-sub-cancel-one : (n : ℕ) → suc n - 1 ≡ n
-    add-sub-cancel-one n = omega arith
-
 -- nothing left
 pub onward-none : (c : ℕ) → onward c [] ≡ c
 unfolding onward
@@ -50,9 +35,9 @@ onward-turn c i s h = rw (add-one, drop-cons s i 0)
 pub shifted-lt : (c : ℕ) → c < 65536 → shifted c < 65536
 unfolding shifted
 shifted-lt c h =
-    pick-case (λ r. r < 65536) (ltb c 32768) (c * 2) (bitXor (c * 2 % 65536) 0x1021)
+    pick-case (λ r. r < 65536) (ltb c 32768) _ _
     (λ e. omega (arith, ltb-true c 32768 e))
-    (λ e. xor-lt 16 (c * 2 % 65536) 0x1021 (omega arith) (lit< tt))
+    (λ e. xor-lt 16 (c * 2 % 65536) _ (omega arith) (lit< tt))
 
 -- after any number of bits
 pub bits-lt : (n c : ℕ) → c < 65536 → bits n c < 65536

@@ -12,10 +12,13 @@ use Rattle.crc.proofs.continued.Statement.{statement}
 use Rattle.crc.proofs.continued.Tie as tie
 
 abbrev Inv-loop : tie.InvT-loop
-Inv-loop c s r₀ i₀ r i = (onward r (drop i s) ≡ onward c s) × (i ≤ length s)
+Inv-loop c s table r₀ i₀ r i = (onward r (drop i s) ≡ onward c s) × (i ≤ length s)
 
 abbrev μ-loop : tie.MeasureT-loop
-μ-loop c s r₀ i₀ r i = length s - i
+μ-loop c s table r₀ i₀ r i = length s - i
+
+entries-requires : tie.Need-entries-requires Inv-loop μ-loop
+entries-requires c κs = search needs
 
 loop-holds : tie.Need-loop-holds Inv-loop μ-loop
 loop-holds c = (refl, omega arith)
@@ -34,8 +37,8 @@ loop-less c = omega arith
 
 loop-again : tie.Need-loop-again Inv-loop μ-loop
 loop-again c =
-    let l = c .before .before .before in
-    let s = l .before .before .args .s .now in (
+    let l = c .before .before .before .before in
+    let s = l .before .before .before .args .s .now in (
       ap (λ (r : ℕ). onward r (drop (l .loop .i + 1) s)) (c .step .ensures) ∙ onward-turn (l .loop .r) (l .loop .i) s (omega arith) ∙ l .loop .inv .0,
       omega arith,
     )
@@ -44,7 +47,7 @@ returns : tie.Need-returns Inv-loop μ-loop
 returns c =
     let l = c .before in
     sym (onward-none (l .loop .r))
-    ∙ ap (λ (t : List ℕ). onward (l .loop .r) t) (sym (drop-of-length-le (l .before .before .args .s .now) (c .loop-test .left)))
+    ∙ ap (λ (t : List ℕ). onward (l .loop .r) t) (sym (drop-of-length-le (l .before .before .before .args .s .now) (c .loop-test .left)))
     ∙ l .loop .inv .0
 
 pub continued-spec : {M : Type 1} → statement M
@@ -53,6 +56,7 @@ continued-spec =
     (tie.spec
     Inv-loop
     μ-loop
+    entries-requires
     loop-holds
     shared-slice-read-step
     step-requires

@@ -1,59 +1,26 @@
--- `crc::step` meets its contract: with `left` bits to come, the register they end in is the byte's.
+-- `crc::step` meets its contract: what is looked up stands for the eight bits that leave the register.
 -- Assumes nothing.
-use mathlib.Core.Path.{_≡_, refl, sym, ap, _∙_}
-use Prim.Native.Nat.{ℕ, _-_, _≤_}
-use native.Mathlib.Omega.{arith}
+use mathlib.Core.Path.{sym, ap, _∙_}
+use Prim.Native.Nat.{_*_, _%_}
+use lib.Bits.{bitXor}
 use borrow.Author.Needs.{needs}
-use Rattle.crc.specs.Crc.{bits, byte}
-use Rattle.crc.proofs.Laws.{bits-turn, bits-none}
+use Rattle.crc.proofs.Xor.{byte-step}
 use Rattle.crc.proofs.step.Statement.{statement}
 use Rattle.crc.proofs.step.Tie as tie
 
-abbrev Inv-loop : tie.InvT-loop
-Inv-loop c b r₀ left₀ r left = (bits left r ≡ byte c b) × (left ≤ 8)
+mul-result : tie.Need-mul-result
+mul-result c = search needs
 
-abbrev μ-loop : tie.MeasureT-loop
-μ-loop c b r₀ left₀ r left = left
+cast-look : tie.Need-cast-look
+cast-look c = search needs
 
-mul-r : tie.Need-mul-r Inv-loop μ-loop
-mul-r c = omega arith
+look-requires : tie.Need-look-requires
+look-requires c κs = search needs
 
-loop-holds : tie.Need-loop-holds Inv-loop μ-loop
-unfolding byte
-loop-holds c = (refl, omega arith)
-
-shift-requires : tie.Need-shift-requires Inv-loop μ-loop
-shift-requires c κs = search needs
-
-sub-left : tie.Need-sub-left Inv-loop μ-loop
-sub-left c = omega arith
-
-loop-less : tie.Need-loop-less Inv-loop μ-loop
-loop-less c = omega arith
-
-loop-again : tie.Need-loop-again Inv-loop μ-loop
-loop-again c = (
-  ap (λ (r : ℕ). bits (c .before .before .loop .left - 1) r) (c .shift .ensures)
-      ∙ bits-turn (c .before .before .loop .left) (c .before .before .loop .r) (omega arith)
-      ∙ c .before .before .loop .inv .0,
-  omega arith,
-)
-
-returns : tie.Need-returns Inv-loop μ-loop
+returns : tie.Need-returns
 returns c =
-    let done : c .before .loop .left ≡ 0 = omega arith in
-    sym (bits-none (c .before .loop .r)) ∙ ap (λ (n : ℕ). bits n (c .before .loop .r)) (sym done) ∙ c .before .loop .inv .0
+    let a = c .before .args in
+    ap (bitXor (a .c % 256 * 256)) (c .look .ensures) ∙ sym (byte-step (a .c) (a .b) (search needs) (search needs))
 
 pub step-spec : {M : Type 1} → statement M
-step-spec =
-    tie.close
-    (tie.spec
-    Inv-loop
-    μ-loop
-    mul-r
-    loop-holds
-    shift-requires
-    sub-left
-    loop-less
-    loop-again
-    returns)
+step-spec = tie.close (tie.spec mul-result cast-look look-requires returns)
