@@ -3,6 +3,7 @@
 mod reads;
 mod regions;
 mod steps;
+mod sums;
 
 use crate::call::{Call, Kind, Outcome};
 
@@ -44,8 +45,8 @@ pub fn all() -> Vec<Name> {
     let handled = regions::HANDLED.names().chain(regions::FIRST.names());
     let images = reads::VALID.names().chain(reads::SPOILT.names());
     let reads = reads::READS.names().chain(images).chain(reads::REPLIES.names());
-    let mut all: Vec<(usize, Name)> =
-        steps::STEPS.names().chain(configured).chain(handled).chain(reads).collect();
+    let lines = steps::STEPS.names().chain(sums::SUMS.names());
+    let mut all: Vec<(usize, Name)> = lines.chain(configured).chain(handled).chain(reads).collect();
     all.sort();
     all.into_iter().map(|(_, name)| name).collect()
 }
@@ -54,6 +55,8 @@ pub fn all() -> Vec<Name> {
 pub fn add(call: &Call, outcome: &Outcome, list: &mut Vec<usize>) {
     match call.kind {
         Kind::Collect => steps::add(call, outcome, list),
+        Kind::TakeLine => sums::add_read(call, outcome, list),
+        Kind::SendFrame => sums::add_sent(call, outcome, list),
         Kind::Configure => regions::add(call, outcome, list),
         Kind::Handle => {
             regions::add(call, outcome, list);

@@ -245,6 +245,15 @@ pub fn history(harness: &mut Harness, rng: &mut Rng) {
     }
 }
 
+/// A CRC, now and then with one bit wrong.
+fn flawed(rng: &mut Rng, crc: u16) -> u16 {
+    if rng.once_in(5) {
+        crc ^ 1 << rng.below(16)
+    } else {
+        crc
+    }
+}
+
 /// One line, by itself, for any record and any buffer.
 pub fn single(harness: &mut Harness, rng: &mut Rng) {
     harness.kind("lines: single, any record and buffer");
@@ -257,6 +266,12 @@ pub fn single(harness: &mut Harness, rng: &mut Rng) {
     if room > 400 && !rng.once_in(30) {
         room = 400;
     }
+    if rng.once_in(16) {
+        // The end of a packet so long that its checksum takes every entry of a table by the byte.
+        let total = rng.range(3_002, 4_002);
+        reader = [1, total as u32, (total - rng.range(1, 93)) as u32, rng.byte() as u32];
+        room = total - 2;
+    }
     let mut packet = rng.bytes(room);
     let mut line = match rng.below(10) {
         // A whole packet in one line.
@@ -264,7 +279,7 @@ pub fn single(harness: &mut Harness, rng: &mut Rng) {
             let length = rng.range(8, 89);
             let body = rng.bytes(length);
             let total = (length as u16 + 2).to_be_bytes();
-            let crc = crc::crc16(&body).to_be_bytes();
+            let crc = flawed(rng, crc::crc16(&body)).to_be_bytes();
             sender::line(INITIAL, &[&total[..], &body, &crc].concat())
         }
         // The beginning of a packet.
@@ -277,7 +292,7 @@ pub fn single(harness: &mut Harness, rng: &mut Rng) {
             }
             sender::line(INITIAL, &raw)
         }
-        // The rest of the record's packet, with the right CRC.
+        // The rest of the record's packet.
         4..=6 if reader[0] != 0 && (10..=65_535).contains(&reader[1]) && reader[2] < reader[1] => {
             let (total, come) = (reader[1] as usize, reader[2] as usize);
             let left = total - come;
@@ -287,7 +302,7 @@ pub fn single(harness: &mut Harness, rng: &mut Rng) {
             } else {
                 let from = come.min(total - 2);
                 let body = rng.bytes(total - 2 - from);
-                let crc = crc::extend(crc::crc16(&packet[..from]), &body).to_be_bytes();
+                let crc = flawed(rng, crc::extend(crc::crc16(&packet[..from]), &body)).to_be_bytes();
                 let raw = [&body[..], &crc].concat();
                 let skip = raw.len() - left;
                 if skip == 1 {

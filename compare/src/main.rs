@@ -38,7 +38,7 @@ const HELP: &str = "compare: compares the archive libport.a with the second prog
 
 Prints progress, then how many comparisons of each kind were made and what they answered. On a difference it prints the
 smallest failing input that it finds, with both answers, and exits with status 1. Where it met a class of calls less than
-once in a thousand of N, or less than 1000 times where N is more than a million, it exits with status 3.";
+once in five thousand of N, or less than 1000 times where N is more than five million, it exits with status 3.";
 
 /// Makes some comparisons of one kind of input.
 type Generator = fn(&mut Harness, &mut Rng);
@@ -108,7 +108,7 @@ fn main() {
         }
     }
     harness.summary();
-    let rare = harness.rare((count / 1000).min(1000));
+    let rare = harness.rare((count / 5000).min(1000));
     for ((group, class), met) in &rare {
         println!("{group}: {class}: met {met} times, which is too rarely");
     }

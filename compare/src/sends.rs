@@ -12,6 +12,8 @@ pub fn single(harness: &mut Harness, rng: &mut Rng) {
     let length = match rng.below(20) {
         0 => rng.below(9),
         1 if rng.once_in(40) => rng.range(65_520, 65_550),
+        // Long enough that its checksum takes every entry of a table by the byte.
+        2 => rng.range(3_000, 4_000),
         _ => body_length(rng),
     };
     let count = if length >= 8 { sender::cut(length.min(65_533)).len() } else { 1 };
@@ -19,6 +21,7 @@ pub fn single(harness: &mut Harness, rng: &mut Rng) {
         0 => count as u64,
         1 => count as u64 + 1,
         2 => rng.number(),
+        _ if length >= 3_000 => count as u64 - 1,
         3..=5 => count as u64 - 1,
         _ => rng.below(count) as u64,
     };
