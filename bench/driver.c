@@ -44,9 +44,9 @@ static const struct port plain = {
 };
 static const struct port *port;
 
-/* What a path produced: its digest, and for one round the bytes, the calls, and the bytes of packets over the line. */
+/* What a path produced: its digest, and for one round the bytes and the calls. */
 struct result {
-    uint64_t digest, bytes, calls, framed;
+    uint64_t digest, bytes, calls;
 };
 
 static const uint64_t no_bytes = 14695981039346656037u;
@@ -467,26 +467,26 @@ static uint64_t total(const uint32_t *lens, size_t count)
 /* What was sent: the lines. */
 static struct result sent_lines(void)
 {
-    return (struct result){digest_all(lines, line_lens, line_count, STRIDE), image_len, line_count, leave_last ? 0 : image_len};
+    return (struct result){digest_all(lines, line_lens, line_count, STRIDE), image_len, line_count};
 }
 
 /* What was collected: the lines again. */
 static struct result collected_lines(void)
 {
-    return (struct result){digest_all(lines, line_lens, line_count, STRIDE), out_len, step_count, 0};
+    return (struct result){digest_all(lines, line_lens, line_count, STRIDE), out_len, step_count};
 }
 
 /* What was read: the bodies; or, without the last frames, what stands of the last long one. */
 static struct result read_bodies(void)
 {
     uint64_t value = digest(no_bytes, out, leave_last ? BEFORE_LAST : out_len);
-    return (struct result){value, image_len, line_count, leave_last ? 0 : image_len};
+    return (struct result){value, image_len, line_count};
 }
 
 /* The CRCs. */
 static struct result computed_crcs(void)
 {
-    return (struct result){sum, image_len, (image_len + body_size - 1) / body_size, image_len};
+    return (struct result){sum, image_len, (image_len + body_size - 1) / body_size};
 }
 
 /* What was read in the replies. */
@@ -496,7 +496,7 @@ static struct result read_replies(void)
     for (size_t i = 0; i < reply_count * BG_REPLY; i++)
         value = value * 31 + numbers_read[i];
     value ^= digest_all(replies, reply_lens, reply_count, PACKET);
-    return (struct result){value, total(reply_lens, reply_count), reply_count, 0};
+    return (struct result){value, total(reply_lens, reply_count), reply_count};
 }
 
 /* The replies to the requests, and the slot. */
@@ -504,7 +504,7 @@ static struct result answered(void)
 {
     uint64_t value = digest(digest_all(replies, reply_lens, reply_count, PACKET), memory, image_len);
     size_t count = request_count - first_request;
-    return (struct result){value, total(request_lens + first_request, count), count, 0};
+    return (struct result){value, total(request_lens + first_request, count), count};
 }
 
 /* The replies to the erases, and the slot, whose bytes are counted. */
@@ -526,17 +526,15 @@ static struct result listed(void)
 /* The packets that came over the line. */
 static struct result passed(void)
 {
-    uint64_t framed = total(request_lens, request_count) + total(reply_lens, reply_count);
-    return (struct result){digest(no_bytes, out, out_len), image_len, request_count, framed};
+    return (struct result){digest(no_bytes, out, out_len), image_len, request_count};
 }
 
 /* The slot, which has to hold the image. */
 static struct result uploaded(void)
 {
-    uint64_t framed = total(request_lens, request_count) + total(reply_lens, reply_count);
     if (memcmp(memory, image, image_len) != 0)
         fail("the slot does not hold the image");
-    return (struct result){digest(no_bytes, memory, image_len), image_len, request_count, framed};
+    return (struct result){digest(no_bytes, memory, image_len), image_len, request_count};
 }
 
 /* A path: what is made before, one round, and what it produced. */
@@ -640,8 +638,8 @@ static void measure(const char *name, size_t kib, unsigned long rounds)
         best = took < best ? took : best;
     }
     struct result result = path->produced();
-    printf("%016llx %llu %llu %llu %llu\n", (unsigned long long)result.digest, (unsigned long long)result.bytes,
-           (unsigned long long)result.calls, (unsigned long long)result.framed, (unsigned long long)best);
+    printf("%016llx %llu %llu %llu\n", (unsigned long long)result.digest, (unsigned long long)result.bytes,
+           (unsigned long long)result.calls, (unsigned long long)best);
 }
 
 /* Handles a request of each family that is read. */

@@ -6,7 +6,6 @@
 
 enum { LUMP = 256, HELD = 126, LINE = 127, RAW = 93, BODY_MIN = 8, BODY_MAX = 65533, ONE_FRAME_BELOW = 89, FIRST = 91 };
 
-#ifndef PLAIN_CRC_BITS
 static const uint16_t crc_table[256] = {
     0x0000, 0x1021, 0x2042, 0x3063, 0x4084, 0x50A5, 0x60C6, 0x70E7, 0x8108, 0x9129, 0xA14A, 0xB16B,
     0xC18C, 0xD1AD, 0xE1CE, 0xF1EF, 0x1231, 0x0210, 0x3273, 0x2252, 0x52B5, 0x4294, 0x72F7, 0x62D6,
@@ -31,7 +30,6 @@ static const uint16_t crc_table[256] = {
     0xEF1F, 0xFF3E, 0xCF5D, 0xDF7C, 0xAF9B, 0xBFBA, 0x8FD9, 0x9FF8, 0x6E17, 0x7E36, 0x4E55, 0x5E74,
     0x2E93, 0x3EB2, 0x0ED1, 0x1EF0,
 };
-#endif
 
 /* The value of each Base64 character; 64 for all other bytes. */
 static const uint8_t base64_value[256] = {
@@ -55,19 +53,11 @@ static const uint8_t base64_value[256] = {
 
 static const char base64_character[] = "ABCDEFGHIJKLMNOPQRSTUVWXYZabcdefghijklmnopqrstuvwxyz0123456789+/";
 
-/* The CRC after more bytes: by the table, or bit by bit in a build that asks for it. */
+/* The CRC after more bytes. */
 uint16_t plain_crc(uint16_t crc, const uint8_t *bytes, size_t length)
 {
-#ifdef PLAIN_CRC_BITS
-    for (size_t i = 0; i < length; i++) {
-        crc ^= (uint16_t)(bytes[i] << 8);
-        for (int bit = 0; bit < 8; bit++)
-            crc = (uint16_t)(crc & 0x8000 ? crc << 1 ^ 0x1021 : crc << 1);
-    }
-#else
     for (size_t i = 0; i < length; i++)
         crc = (uint16_t)(crc << 8 ^ crc_table[(crc >> 8 ^ bytes[i]) & 0xFF]);
-#endif
     return crc;
 }
 

@@ -5,9 +5,9 @@ import textwrap
 from collections import namedtuple
 
 PROGRAMS = [("archive", "archive"), ("gcc2", "C, gcc -O2"), ("gcc3", "C, gcc -O3"), ("clang3", "C, clang -O3"),
-            ("bits", "C, CRC bit by bit"), ("rust", "Rust")]
+            ("rust", "Rust")]
 NAMES = dict(PROGRAMS)
-# The builds of C with a table for the CRC, and all that the archive is held to.
+# The builds of C, and all that the archive is held to.
 BUILDS = ["gcc2", "gcc3", "clang3"]
 OTHERS = BUILDS + ["rust"]
 PATHS = {
@@ -38,17 +38,16 @@ PATHS = {
 # The paths whose calls are counted too.
 CALLS = ["collect256", "collect64", "collect16", "collect1", "reply", "echo", "pairs", "handle", "chunks", "unknown", "worst",
          "erase", "list0", "list60000"]
-# The paths with a CRC, each with the long paths that say what it costs.
-WITH_CRC = {"send": ["sendlong"], "sendlong": ["sendlong"], "read": ["readlong"], "readlong": ["readlong"],
-            "frames": ["sendlong", "readlong"], "upload": ["sendlong", "readlong"]}
+# The archive's function that computes the CRC, and the path whose bytes it is counted on: no call gives the CRC alone.
+CRC, CRC_PATH = "crc::continued", "send"
 GROWING = {"send": "sender", "read": "reader", "upload": "whole upload"}
 SIZES = [64, 128, 256, 512, 1024]
 GROWN = ["archive", "gcc2", "rust"]
-PLOTTED = [("archive", "archive", "#1b5e8c"), ("c", "C, CRC by table, its best build", "#e8b25a"),
+PLOTTED = [("archive", "archive", "#1b5e8c"), ("c", "C, its best build", "#e8b25a"),
            ("rust", "Rust", "#7a7a7a")]
 
-# A round of a path: its bytes, its calls, the bytes of packets over the line, and the instructions.
-Count = namedtuple("Count", "bytes calls framed instructions")
+# A round of a path: its bytes, its calls, and the instructions.
+Count = namedtuple("Count", "bytes calls instructions")
 
 
 def rows(path):
@@ -78,6 +77,8 @@ class Measured:
 
     def a_byte(self, path, program, size=1024):
         """Instructions a byte, or nothing."""
+        if (path, program) == ("crc", "archive"):
+            return dict((name, count) for count, name in self.functions(CRC_PATH))[CRC]
         count = self.counts.get((path, program, size))
         return count and count.instructions / count.bytes
 
@@ -89,12 +90,6 @@ class Measured:
     def crc(self, side, program):
         """What the last frame of each long body adds, to a byte of it: the CRC."""
         return self.a_byte(side, program) - self.a_byte(side + "-open", program)
-
-    def less_crc(self, path, program):
-        """Instructions a byte, less what the CRC costs for the bytes that went over the line."""
-        count = self.counts[path, program, 1024]
-        cost = sum(self.crc(side, program) for side in WITH_CRC[path])
-        return self.a_byte(path, program) - cost * count.framed / count.bytes
 
     def functions(self, path):
         """The archive's instructions a byte by function, each function's own, the most first."""
@@ -148,25 +143,18 @@ def met(v):
 
 def goal(m):
     """The table of the goal, how many paths meet it, and where the archive's instructions go on those that do not."""
-    plain = [verdict(path, name, lambda program: m.a_byte(path, program))
-             for path, name in PATHS.items() if m.a_byte(path, "archive")]
-    less = {path: verdict(path, "- less the CRC", lambda program: m.less_crc(path, program)) for path in WITH_CRC}
-    aside = [less.get(v.path, v) for v in plain]
-    lines = [line for v in plain for line in ([v, less[v.path]] if v.path in less else [v])]
+    verdicts = [verdict(path, name, lambda program: m.a_byte(path, program)) for path, name in PATHS.items()]
     cells = [[v.name, number(v.own), number(v.best), NAMES[v.which], ratio(v),
-              "met" if met(v) else "NOT met"] for v in lines]
+              "met" if met(v) else "NOT met"] for v in verdicts]
+    missed = [v for v in verdicts if not met(v)]
     text = [table(["path", "archive", "the best other", "which", "ratio", "goal"], cells), "",
-            f"Met on {sum(map(met, plain))} of {len(plain)} paths; the CRC aside, on {sum(map(met, aside))}."]
-    by_crc = [v.name for v, less_its in zip(plain, aside) if not met(v) and met(less_its)]
-    if by_crc:
-        text += ["", wrapped("Above it by the CRC alone: " + "; ".join(by_crc) + ".")]
-    missed = [v for v in aside if not met(v)]
+            f"Met on {len(verdicts) - len(missed)} of {len(verdicts)} paths."]
     if missed:
-        text += ["", wrapped("""Above it, the CRC aside, with the functions that take most of the archive's
-            instructions a byte (each function's own; what was inlined counts to its caller):"""), ""]
+        text += ["", wrapped("""Above it, with the functions that take most of the archive's instructions a byte (each
+            function's own; what was inlined counts to its caller):"""), ""]
     for v in missed:
         most = ", ".join(f"`{name}` {number(count)}" for count, name in m.functions(v.path)[:4] if count >= 0.005)
-        text.append(wrapped(f"- {PATHS[v.path]}, {ratio(v)} times {NAMES[v.which]}: {most}.", "  "))
+        text.append(wrapped(f"- {v.name}, {ratio(v)} times {NAMES[v.which]}: {most}.", "  "))
     return "\n".join(text)
 
 
@@ -235,7 +223,7 @@ def begun(m):
         in Rust. It compares what they produce, path by path, and fails where they disagree; in this run
         they agreed on all paths. `bench/peer.c` compares each plain C call with the archive's on generated inputs, valid
         and damaged, every lent byte and number: {m.compared:,} calls in this run, no difference, every refusal and rc
-        met. C and Rust compute the CRC by a table; one more build of C, to know the share, bit by bit.""")
+        met. All of them compute the CRC by a table of 256 entries.""")
 
 
 def tools_used(m):
@@ -269,9 +257,7 @@ A count by the byte hides what a call costs by itself.
 
 ## Goal
 
-No path above 1.0 times the best of the others in instructions a byte: C with a table for the CRC, in each of its three
-builds, and Rust. For a path with a CRC a second line takes from each program what the CRC costs it for the bytes that go
-over the line (the share below): the goal with the CRC aside.
+No path above 1.0 times the best of the others in instructions a byte: C in each of its three builds, and Rust.
 
 {goal(m)}
 
@@ -298,6 +284,8 @@ What the last frame of each body of 65,533 bytes adds, which is where the CRC is
 - The image is 1 MiB of pseudo-random bytes of a fixed seed. Sender and reader: the image is cut into bodies of 512
   bytes (the packet size that the upload program takes) or 65,533 (the longest); a byte is a byte of the body.
   "No CRC": the last frame of each body is left out, and with it the CRC in all programs.
+- CRC alone: the bodies of 512. The archive has no call for it: counted is what its function takes while these bodies are
+  sent, the table that it takes for each of them included.
 - Collector: the lines of the bodies of 512 as one stream, which is cut into lumps of one length, and each lump is gone
   through until it is used up; a byte is a byte of the stream, a call is a step through a lump.
 - Maps: a byte is a byte of the packet that is read. Upload replies: those of a whole upload, about 22 bytes each.

@@ -21,8 +21,8 @@
  * To link: the archive libport.a is code for x86-64 Linux, today for no other processor, and needs memcpy and memset of the C library, and nothing
  * else. No call takes more than BG_STACK bytes of stack; measured on x86-64, without what memcpy and memset take:
  *   bg_collect         408
- *   bg_take_line       456
- *   bg_send_frame      248
+ *   bg_take_line       976
+ *   bg_send_frame      768
  *   bg_configure         8
  *   bg_handle          592
  *   bg_write_echo        8
@@ -44,8 +44,8 @@ extern "C" {
 #endif
 
 /* The version: major * 10000 + minor * 100 + patch. The major number changes with a promise that a caller may rely on, the minor with a new name. */
-#define BG_VERSION 20000
-#define BG_VERSION_TEXT "2.0.0"
+#define BG_VERSION 20001
+#define BG_VERSION_TEXT "2.0.1"
 
 /* The most stack that a call takes, in bytes. */
 #define BG_STACK 1024

@@ -51,12 +51,11 @@ struct World {
     family: String,
 }
 
-/// What a path produced: its digest, and for one round the bytes, the calls, and the bytes of packets over the line.
+/// What a path produced: its digest, and for one round the bytes and the calls.
 struct Produced {
     digest: u64,
     bytes: usize,
     calls: usize,
-    framed: usize,
 }
 
 /// Ends with one line where a call was refused or a result is wrong.
@@ -464,28 +463,26 @@ fn total(lens: &[u32]) -> usize {
 /// What was sent: the lines.
 fn sent_lines(w: &World) -> Produced {
     let digest = digest_all(&w.lines, &w.line_lens[..w.line_count], STRIDE);
-    let framed = if w.leave_last == 0 { w.image.len() } else { 0 };
-    Produced { digest, bytes: w.image.len(), calls: w.line_count, framed }
+    Produced { digest, bytes: w.image.len(), calls: w.line_count }
 }
 
 /// What was collected: the lines again.
 fn collected_lines(w: &World) -> Produced {
     let digest = digest_all(&w.lines, &w.line_lens[..w.line_count], STRIDE);
-    Produced { digest, bytes: w.out_len, calls: w.step_count, framed: 0 }
+    Produced { digest, bytes: w.out_len, calls: w.step_count }
 }
 
 /// What was read: the bodies; or, without the last frames, what stands of the last long one.
 fn read_bodies(w: &World) -> Produced {
     let open = w.leave_last == 1;
     let read = &w.out[..if open { BEFORE_LAST } else { w.out_len }];
-    let framed = if open { 0 } else { w.image.len() };
-    Produced { digest: digest(NO_BYTES, read), bytes: w.image.len(), calls: w.line_count, framed }
+    Produced { digest: digest(NO_BYTES, read), bytes: w.image.len(), calls: w.line_count }
 }
 
 /// The CRCs.
 fn computed_crcs(w: &World) -> Produced {
     let bytes = w.image.len();
-    Produced { digest: w.sum, bytes, calls: (bytes + w.body_size - 1) / w.body_size, framed: bytes }
+    Produced { digest: w.sum, bytes, calls: (bytes + w.body_size - 1) / w.body_size }
 }
 
 /// What was read in the replies.
@@ -494,14 +491,14 @@ fn read_replies(w: &World) -> Produced {
     let numbers = w.numbers_read[..w.reply_count].iter().flatten();
     let sum = numbers.fold(0u64, |sum, number| sum.wrapping_mul(31).wrapping_add(*number as u64));
     let digest = digest_all(&w.replies, lens, PACKET) ^ sum;
-    Produced { digest, bytes: total(lens), calls: w.reply_count, framed: 0 }
+    Produced { digest, bytes: total(lens), calls: w.reply_count }
 }
 
 /// The replies to the requests, and the slot.
 fn answered(w: &World) -> Produced {
     let digest = digest(digest_all(&w.replies, &w.reply_lens[..w.reply_count], PACKET), &w.memory);
     let lens = &w.request_lens[w.first_request..w.request_count];
-    Produced { digest, bytes: total(lens), calls: lens.len(), framed: 0 }
+    Produced { digest, bytes: total(lens), calls: lens.len() }
 }
 
 /// The replies to the erases, and the slot, whose bytes are counted.
@@ -515,15 +512,10 @@ fn listed(w: &World) -> Produced {
     Produced { bytes: total(&w.reply_lens[..w.reply_count]), ..answered(w) }
 }
 
-/// The bytes of all requests and replies.
-fn framed(w: &World) -> usize {
-    total(&w.request_lens[..w.request_count]) + total(&w.reply_lens[..w.reply_count])
-}
-
 /// The packets that came over the line.
 fn passed(w: &World) -> Produced {
     let digest = digest(NO_BYTES, &w.out[..w.out_len]);
-    Produced { digest, bytes: w.image.len(), calls: w.request_count, framed: framed(w) }
+    Produced { digest, bytes: w.image.len(), calls: w.request_count }
 }
 
 /// The slot, which has to hold the image.
@@ -531,12 +523,7 @@ fn uploaded(w: &World) -> Produced {
     if w.memory != w.image {
         fail("the slot does not hold the image");
     }
-    Produced {
-        digest: digest(NO_BYTES, &w.memory),
-        bytes: w.image.len(),
-        calls: w.request_count,
-        framed: framed(w),
-    }
+    Produced { digest: digest(NO_BYTES, &w.memory), bytes: w.image.len(), calls: w.request_count }
 }
 
 /// One round: what is counted (bench/count.c).
@@ -638,6 +625,6 @@ fn main() {
         measured(run, &mut w);
         best = best.min(from.elapsed().as_nanos());
     }
-    let Produced { digest, bytes, calls, framed } = produced(&w);
-    println!("{digest:016x} {bytes} {calls} {framed} {best}");
+    let Produced { digest, bytes, calls } = produced(&w);
+    println!("{digest:016x} {bytes} {calls} {best}");
 }
