@@ -1,4 +1,4 @@
--- What the step looks up.
+-- Only proofs need this file: what the step looks up.
 -- Assumes nothing.
 use mathlib.Core.Path.{_≡_}
 use mathlib.Core.List.{List}

@@ -1,6 +1,4 @@
-// What the step looks up.
-
-// The register after each byte, from 0.
+// The register after each byte, from 0: what the step looks up.
 pub const TABLE: [u16; 256] = [
     0x0000,
     0x1021,
