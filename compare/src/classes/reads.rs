@@ -32,7 +32,7 @@ impl Read {
     }
 }
 
-pub const READS: Group<Read> = Group {
+pub(super) const READS: Group<Read> = Group {
     name: "state reads",
     first: FIRST.end(),
     classes: &[
@@ -134,7 +134,7 @@ impl Start {
     }
 }
 
-pub const VALID: Group<Start> = Group {
+pub(super) const VALID: Group<Start> = Group {
     name: "valid images",
     first: READS.end(),
     classes: &[
@@ -163,7 +163,7 @@ pub const VALID: Group<Start> = Group {
     ],
 };
 
-pub const SPOILT: Group<Start> = Group {
+pub(super) const SPOILT: Group<Start> = Group {
     name: "no valid image",
     first: VALID.end(),
     classes: &[
@@ -251,7 +251,7 @@ pub struct Reply {
     returned: u32,
 }
 
-pub const REPLIES: Group<Reply> = Group {
+pub(super) const REPLIES: Group<Reply> = Group {
     name: "bg_read_reply",
     first: SPOILT.end(),
     classes: &[("refused 10 for a list", |it| it.is_list && it.returned == 10)],

@@ -70,11 +70,11 @@ const BOTH: [Class<Regions>; 14] = [
     }),
 ];
 
-pub const CONFIGURED: Group<Regions> =
+pub(super) const CONFIGURED: Group<Regions> =
     Group { name: "bg_configure, its regions", first: STEPS.end(), classes: &BOTH };
 
 /// What only a configuration meets: it is lent no memory.
-pub const LARGE: Group<Regions> = Group {
+pub(super) const LARGE: Group<Regions> = Group {
     name: CONFIGURED.name,
     first: CONFIGURED.end(),
     classes: &[("slot 0 above the other's bound", |it| {
@@ -82,11 +82,11 @@ pub const LARGE: Group<Regions> = Group {
     })],
 };
 
-pub const HANDLED: Group<Regions> =
+pub(super) const HANDLED: Group<Regions> =
     Group { name: "bg_handle, its regions", first: LARGE.end(), classes: &BOTH };
 
 /// What only a request meets: other reasons to refuse it come behind the regions.
-pub const FIRST: Group<Regions> = Group {
+pub(super) const FIRST: Group<Regions> = Group {
     name: HANDLED.name,
     first: HANDLED.end(),
     classes: &[
@@ -101,7 +101,7 @@ pub fn add(call: &Call, outcome: &Outcome, list: &mut Vec<usize>) {
     let handled = call.kind == Kind::Handle;
     let memory = if handled { call.buffers[0].len() as u128 } else { call.numbers[4] as u128 };
     let possible_slot = (1..=slot::LARGEST as u128).contains(&size) && start + size <= memory;
-    let [open, length, place, _] = call.words[..4].try_into().unwrap();
+    let [open, length, place, _]: [u32; 4] = call.words[..4].try_into().unwrap();
     let possible_session = !handled || open == 0 || (place >= 1 && place <= length && length as u128 <= size);
     let regions = Regions {
         start_0,

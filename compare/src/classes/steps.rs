@@ -22,7 +22,7 @@ impl Step {
 }
 
 /// All of them; a step may be of several.
-pub const STEPS: Group<Step> = Group {
+pub(super) const STEPS: Group<Step> = Group {
     name: "bg_collect",
     first: 0,
     classes: &[

@@ -30,7 +30,7 @@ impl Sum {
     }
 }
 
-pub const SUMS: Group<Sum> = Group {
+pub(super) const SUMS: Group<Sum> = Group {
     name: "checksums",
     first: REPLIES.end(),
     classes: &[
@@ -62,7 +62,10 @@ pub fn add_sent(call: &Call, outcome: &Outcome, list: &mut Vec<usize>) {
     let body = &call.buffers[0];
     if outcome.returned == 0 && call.numbers[0] + 1 == outcome.words[1] as u64 {
         let length = body.len();
-        SUMS.add(&Sum { read: false, agrees: true, length, before: 0, entries: entries(body), bits: 0 }, list);
+        SUMS.add(
+            &Sum { read: false, agrees: true, length, before: 0, entries: entries(body), bits: 0 },
+            list,
+        );
     }
 }
 
