@@ -8,10 +8,10 @@ use native.Mathlib.Omega.{arith}
 use lib.ListN.{length}
 use Rattle.laws.specs.Choice.{pick}
 use Rattle.laws.proofs.Choice.{pick-yes, pick-no}
-use Rattle.slot.specs.declared.Layout.{Layout}
-use Rattle.slot.specs.declared.Session.{Session}
-use Rattle.slot.specs.Session as slots
-use Rattle.slot.specs.Session.{State, stateOf, layoutOk, closed, closedIn, noTag}
+use Rattle.session.specs.declared.Layout.{Layout}
+use Rattle.session.specs.declared.Session.{Session}
+use Rattle.session.specs.Session as slots
+use Rattle.session.specs.Session.{State, stateOf, layoutOk, closed, closedIn, noTag}
 use Rattle.slot.specs.Act.{done}
 use Rattle.slot.specs.History.{HeldIn, SentWhole}
 use Rattle.controller.specs.Handle.{Said, replied, resetAsked, refused, Taking, refusal, request, saidBy, actBy, taking, handled, handle}

@@ -13,8 +13,8 @@ use Rattle.map.specs.declared.Key.{Key}
 use Rattle.map.specs.Fields.{indexOf, numberIn, runIn}
 use Rattle.map.specs.Walk.{mapFrom}
 use Rattle.map.proofs.Sound.{map-run}
-use Rattle.slot.specs.Plan.{above, largest}
-use Rattle.host.specs.Read.{Said, reply, refused, valuesOf, mapRead, isReply, readReply}
+use Rattle.rules.specs.Plan.{above, largest}
+use Rattle.replies.specs.Read.{Said, reply, refused, valuesOf, mapRead, isReply, readReply}
 use Rattle.records.specs.Records.{runStart, runLength, replyNumbers}
 use Rattle.port.specs.Calls.{readBy, readC}
 use Rattle.port.proofs.Reading.{run-inside}

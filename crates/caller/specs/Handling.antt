@@ -6,7 +6,7 @@ use mathlib.Core.Path.{_≡_}
 use mathlib.Core.Bool.{true}
 use mathlib.Core.List.{List, [], _∷_}
 use lib.ListN.{length}
-use Rattle.slot.specs.Session.{State, stateOf, closedIn}
+use Rattle.session.specs.Session.{State, stateOf, closedIn}
 use Rattle.slot.specs.Act.{Act}
 use Rattle.slot.specs.History.{HeldIn, CutFrom, SentWhole}
 use Rattle.controller.specs.Calls.{Call, actsOf}

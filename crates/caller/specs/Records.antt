@@ -5,7 +5,7 @@ use mathlib.Core.Path.{_≡_}
 use Rattle.collector.specs.declared.Collector.{Collector}
 use Rattle.reader.specs.declared.Reader.{Reader}
 use Rattle.reader.specs.declared.Reader.the-variants.{Idle, Open}
-use Rattle.slot.specs.declared.Session.{Session}
+use Rattle.session.specs.declared.Session.{Session}
 use Rattle.records.specs.Records.{collectorOf, collectorNumbers, readerOf, readerNumbers, sessionOf, sessionNumbers}
 
 -- the collector's record

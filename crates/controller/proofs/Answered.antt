@@ -8,12 +8,12 @@ use lib.Seq.{take-at}
 use Rattle.laws.specs.Bytes.{pasted}
 use Rattle.laws.proofs.Choice.{pick-yes}
 use Rattle.laws.proofs.Lists.{pasted-start}
-use Rattle.slot.specs.declared.Layout.{Layout}
-use Rattle.slot.specs.Session.{State}
-use Rattle.smp.specs.declared.Reading.{Reading}
-use Rattle.smp.specs.declared.Request.{Request}
+use Rattle.session.specs.declared.Layout.{Layout}
+use Rattle.session.specs.Session.{State}
+use Rattle.requests.specs.declared.Reading.{Reading}
+use Rattle.requests.specs.declared.Request.{Request}
 use Rattle.smp.specs.Packet.{headerIn}
-use Rattle.smp.specs.Request.{commandOf, requestOf, readRequest}
+use Rattle.requests.specs.Request.{commandOf, requestOf, readRequest}
 use Rattle.controller.specs.Handle.{Taking, request, taking, bytesBy, saidBy, handled}
 use Rattle.controller.specs.Calls.{Answered}
 use Rattle.controller.proofs.Laws.{taking-request}

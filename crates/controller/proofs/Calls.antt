@@ -10,18 +10,18 @@ use lib.Dec.{ltb}
 use lib.ListN.{length, take, drop}
 use borrow.Author.Tests.{le-ltb, lt-ltb}
 use Rattle.laws.proofs.Choice.{pick-yes, pick-no, pick-case}
-use Rattle.slot.specs.declared.Slot.{Slot}
-use Rattle.slot.specs.declared.Layout.{Layout}
-use Rattle.slot.specs.declared.Session.{Session}
-use Rattle.slot.specs.Session.{State, stateOf, possible, closed, closedIn}
+use Rattle.session.specs.declared.Slot.{Slot}
+use Rattle.session.specs.declared.Layout.{Layout}
+use Rattle.session.specs.declared.Session.{Session}
+use Rattle.session.specs.Session.{State, stateOf, possible, closed, closedIn}
 use Rattle.slot.specs.History.{Fit, History, begun, went, HeldIn, SentWhole}
 use Rattle.slot.proofs.Fit.{keep-fit, erase-fit, end-fit, planned-fit}
-use Rattle.slot.proofs.Laws.{layout-bounds}
+use Rattle.session.proofs.Laws.{layout-bounds}
 use Rattle.slot.proofs.History.{demand, as-unbroken, same-memory}
-use Rattle.smp.specs.declared.Request.{Request}
-use Rattle.smp.specs.declared.Reading.{Reading}
-use Rattle.smp.specs.Request.{readRequest}
-use Rattle.smp.proofs.Sound.{upload-inside}
+use Rattle.requests.specs.declared.Request.{Request}
+use Rattle.requests.specs.declared.Reading.{Reading}
+use Rattle.requests.specs.Request.{readRequest}
+use Rattle.requests.proofs.Sound.{upload-inside}
 use Rattle.controller.specs.Doing.{actFor}
 use Rattle.controller.specs.Handle.{Outcome, Taking, asked, taking, actBy, handled, handle}
 use Rattle.controller.specs.Calls.{

@@ -13,23 +13,23 @@ use Rattle.laws.specs.Choice.{both}
 use Rattle.laws.specs.Bytes.{pasted}
 use Rattle.laws.proofs.Choice.{pick-yes, pick-no, pick-case, both-true}
 use Rattle.laws.proofs.Lists.{pasted-none}
-use Rattle.slot.specs.declared.Slot.{Slot}
-use Rattle.slot.specs.declared.Layout.{Layout}
-use Rattle.slot.specs.declared.Upload.{Upload}
-use Rattle.slot.specs.declared.Plan.{Plan}
-use Rattle.slot.specs.Session.{regionOk, sessionOk, State, possible}
-use Rattle.slot.specs.Plan.{above, largest, misSized, sameTag, planLater, planSized, planLength, planFirst, planOf}
+use Rattle.session.specs.declared.Slot.{Slot}
+use Rattle.session.specs.declared.Layout.{Layout}
+use Rattle.rules.specs.declared.Upload.{Upload}
+use Rattle.rules.specs.declared.Plan.{Plan}
+use Rattle.session.specs.Session.{regionOk, sessionOk, State, possible}
+use Rattle.rules.specs.Plan.{above, largest, misSized, sameTag, planLater, planSized, planLength, planFirst, planOf}
 use Rattle.slot.specs.Act.{done, actOf}
 use Rattle.slot.specs.History.{Fit}
 use Rattle.slot.proofs.Fit.{planned-fit}
-use Rattle.slot.proofs.Laws.{region-bounds, session-bounds}
-use Rattle.smp.specs.declared.Request.{Request}
-use Rattle.smp.specs.declared.Reading.{Reading}
+use Rattle.session.proofs.Laws.{region-bounds, session-bounds}
+use Rattle.requests.specs.declared.Request.{Request}
+use Rattle.requests.specs.declared.Reading.{Reading}
 use Rattle.smp.specs.Packet.{headerIn}
-use Rattle.smp.specs.Request.{readRequest}
+use Rattle.requests.specs.Request.{readRequest}
 use Rattle.smp.specs.Reply.{replyBytes, Sayable}
 use Rattle.smp.specs.Inner.{Written}
-use Rattle.smp.proofs.Sound.{upload-inside, echo-inside, request-sized}
+use Rattle.requests.proofs.Sound.{upload-inside, echo-inside, request-sized}
 use Rattle.controller.specs.declared.Response.{Response}
 use Rattle.controller.specs.Inner.{Answerable}
 use Rattle.controller.specs.Doing.{actFor, replyTo, responseFor, responseMap, asksReset}

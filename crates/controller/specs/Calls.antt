@@ -7,14 +7,14 @@ use mathlib.Core.List.{List, [], _∷_}
 use lib.Dec.{ltb}
 use lib.ListN.{length, take, drop, getD}
 use Rattle.laws.specs.Choice.{pick}
-use Rattle.slot.specs.declared.Layout.{Layout}
-use Rattle.slot.specs.declared.Session.{Session}
-use Rattle.slot.specs.Session.{layoutOk, State, stateOf, possible, closedIn}
+use Rattle.session.specs.declared.Layout.{Layout}
+use Rattle.session.specs.declared.Session.{Session}
+use Rattle.session.specs.Session.{layoutOk, State, stateOf, possible, closedIn}
 use Rattle.slot.specs.Act.{Act}
 use Rattle.slot.specs.History.{HeldIn, CutFrom, SentWhole}
-use Rattle.smp.specs.declared.Reading.{Reading}
-use Rattle.smp.specs.declared.Request.{Request}
-use Rattle.smp.specs.Request.{readRequest, isRequest}
+use Rattle.requests.specs.declared.Reading.{Reading}
+use Rattle.requests.specs.declared.Request.{Request}
+use Rattle.requests.specs.Request.{readRequest, isRequest}
 use Rattle.controller.specs.Handle.{request, taking, actBy, bytesBy, saidBy, handle}
 
 -- one call's packet and reply buffer

@@ -4,13 +4,13 @@
 use mathlib.Core.Bool.{Bool, true, false}
 use mathlib.Core.List.{List}
 use Prim.Native.Nat.{ℕ}
-use Rattle.slot.specs.declared.Slot.{Slot}
-use Rattle.slot.specs.declared.Layout.{Layout}
-use Rattle.slot.specs.declared.Plan.{Plan}
-use Rattle.slot.specs.Session.{State}
-use Rattle.slot.specs.Plan.{planOf}
+use Rattle.session.specs.declared.Slot.{Slot}
+use Rattle.session.specs.declared.Layout.{Layout}
+use Rattle.rules.specs.declared.Plan.{Plan}
+use Rattle.session.specs.Session.{State}
+use Rattle.rules.specs.Plan.{planOf}
 use Rattle.slot.specs.Act.{Act, actOf}
-use Rattle.smp.specs.declared.Request.{Request}
+use Rattle.requests.specs.declared.Request.{Request}
 use Rattle.smp.specs.declared.Reply.{Reply}
 use Rattle.smp.specs.Reply.{replyMap}
 use Rattle.listing.specs.Listing.{listMap}

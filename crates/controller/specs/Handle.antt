@@ -9,14 +9,14 @@ use lib.ListN.{length}
 use Rattle.laws.specs.Choice.{pick}
 use Rattle.laws.specs.Bytes.{pasted}
 use Rattle.refusal.specs.Number.{numberOf}
-use Rattle.slot.specs.declared.Slot.{Slot}
-use Rattle.slot.specs.declared.Layout.{Layout}
-use Rattle.slot.specs.Session.{State, stateOf, possible}
+use Rattle.session.specs.declared.Slot.{Slot}
+use Rattle.session.specs.declared.Layout.{Layout}
+use Rattle.session.specs.Session.{State, stateOf, possible}
 use Rattle.slot.specs.Act.{Act, done}
-use Rattle.smp.specs.declared.Request.{Request}
-use Rattle.smp.specs.declared.Reading.{Reading}
+use Rattle.requests.specs.declared.Request.{Request}
+use Rattle.requests.specs.declared.Reading.{Reading}
 use Rattle.smp.specs.Packet.{headerIn}
-use Rattle.smp.specs.Request.{readRequest}
+use Rattle.requests.specs.Request.{readRequest}
 use Rattle.smp.specs.Reply.{replyBytes}
 use Rattle.controller.specs.declared.Answer.{Answer}
 use Rattle.controller.specs.declared.Answer.the-variants.{Replied, ResetAsked, Refused}

@@ -5,10 +5,10 @@ use Prim.Native.Nat.{ℕ}
 use mathlib.Core.Path.{_≡_}
 use mathlib.Core.List.{List}
 use Prim.{Unit}
-use Rattle.slot.specs.declared.Slot.{Slot}
-use Rattle.slot.specs.Session.{State, stateOf}
+use Rattle.session.specs.declared.Slot.{Slot}
+use Rattle.session.specs.Session.{State, stateOf}
 use Rattle.slot.specs.Act.{done}
-use Rattle.smp.specs.declared.Request.{Request}
+use Rattle.requests.specs.declared.Request.{Request}
 use Rattle.smp.specs.Reply.{Sayable}
 use Rattle.controller.specs.declared.Response.{Response}
 use Rattle.controller.specs.declared.Done.{Done}

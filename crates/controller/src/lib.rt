@@ -1,22 +1,22 @@
 // The controller's request call: a packet goes in, and a reply comes out; the slot is written as the upload rules say.
 use refusal::Refusal;
-use slot::Layout;
-use slot::Plan;
-use slot::Session;
-use slot::Slot;
-use slot::Upload;
-use smp::Reading;
+use requests::Reading;
+use requests::Request;
+use rules::Plan;
+use rules::Upload;
+use session::Layout;
+use session::Session;
+use session::Slot;
 use smp::Reply;
-use smp::Request;
 ghost use mathlib.Core.Path.{_≡_};
 ghost use mathlib.Core.Bool.{true};
 ghost use mathlib.Core.List.{List};
 ghost use Prim.Native.Nat.{ℕ, _+_, _-_, _≤_, _<_};
 ghost use lib.ListN.{length};
 ghost use Rattle.laws.specs.Parts.{partOf, Within};
-ghost use Rattle.slot.specs.Session.{regionOk, layoutOk, sessionOk, stateOf, possible};
+ghost use Rattle.session.specs.Session.{regionOk, layoutOk, sessionOk, stateOf, possible};
 ghost use Rattle.smp.specs.Packet.{headerIn};
-ghost use Rattle.smp.specs.Request.{readRequest};
+ghost use Rattle.requests.specs.Request.{readRequest};
 ghost use Rattle.smp.specs.Inner.{Written};
 ghost use Rattle.controller.specs.Doing.{replyTo, responseMap, asksReset};
 ghost use Rattle.controller.specs.Handle.{Taking, outcome, handled, handle};
@@ -79,7 +79,7 @@ fn do_upload(
     ensures { λ r. ⌜ Carried slot (stateOf (now (memory .entry)) (now (tag .entry)) session) (now (packet .entry)) (Request.Upload upload) r
         (now (memory .exit)) (now (tag .exit)) ⌝ }
 {
-    let plan = slot::plan_upload(slot, session, tag, packet, upload);
+    let plan = rules::plan_upload(slot, session, tag, packet, upload);
     let after = slot::carry_out(slot, session, tag, memory, packet, upload, plan);
     let reply = reply_to(plan, after);
     Done {
@@ -112,7 +112,7 @@ fn carry(
             session,
         },
         Request::Reset => {
-            let after = slot::closed_session();
+            let after = session::closed_session();
             *tag = [0u8; 32];
             Done {
                 response: Response::Reply(Reply::Done),
@@ -216,7 +216,7 @@ pub fn handle_packet(
     ensures { λ r. ⌜ outcome r (now (memory .exit)) (now (tag .exit)) (now (reply .exit))
         ≡ handle layout (stateOf (now (memory .entry)) (now (tag .entry)) session) (now (packet .entry)) (now (reply .entry)) ⌝ }
 {
-    if !slot::possible(layout, session, memory.len()) {
+    if !session::possible(layout, session, memory.len()) {
         return Handled {
             answer: Answer::Refused(Refusal::Impossible),
             session,
@@ -228,7 +228,7 @@ pub fn handle_packet(
             session,
         };
     }
-    let reading = smp::read_request(packet);
+    let reading = requests::read_request(packet);
     let Reading::Is(request) = reading else {
         return Handled {
             answer: Answer::Refused(Refusal::WrongKind),
@@ -270,7 +270,7 @@ pub fn handle_run(
 ) -> Session
     ensures { λ r. ⌜ Ran layout (now (memory .entry)) (now (run .entry)) (now (reply .entry)) (now (memory .exit)) (now (tag .exit)) r (now (reply .exit)) ⌝ }
 {
-    let mut session = slot::closed_session();
+    let mut session = session::closed_session();
     *tag = [0u8; 32];
     let mut at = 0;
     while 2 <= run.len() - at {

@@ -12,15 +12,15 @@ use Rattle.reader.specs.declared.Answer.{Answer}
 use Rattle.reader.specs.Reader as reading
 use Rattle.sender.specs.declared.Sent.{Sent}
 use Rattle.sender.specs.Sender as sending
-use Rattle.slot.specs.declared.Configured.{Configured}
-use Rattle.slot.specs.Session as slots
+use Rattle.session.specs.declared.Configured.{Configured}
+use Rattle.session.specs.Session as slots
 use Rattle.controller.specs.declared.Handled.{Handled}
 use Rattle.controller.specs.declared.Answer as handling-answer
 use Rattle.controller.specs.Handle as handling
 use Rattle.host.specs.declared.Written.{Written}
 use Rattle.host.specs.Write as writing
-use Rattle.host.specs.declared.Heard.{Heard}
-use Rattle.host.specs.Read as hearing
+use Rattle.replies.specs.declared.Heard.{Heard}
+use Rattle.replies.specs.Read as hearing
 use Rattle.determined.specs.Determined.{
   Determines,
   StepDetermined,

@@ -12,14 +12,14 @@ use Rattle.reader.specs.declared.Taken.{Taken}
 use Rattle.reader.specs.Reader as reading
 use Rattle.sender.specs.declared.Sent.{Sent}
 use Rattle.sender.specs.Sender as sending
-use Rattle.slot.specs.declared.Configured.{Configured}
-use Rattle.slot.specs.Session as slots
+use Rattle.session.specs.declared.Configured.{Configured}
+use Rattle.session.specs.Session as slots
 use Rattle.controller.specs.declared.Handled.{Handled}
 use Rattle.controller.specs.Handle as handling
 use Rattle.host.specs.declared.Written.{Written}
 use Rattle.host.specs.Write as writing
-use Rattle.host.specs.declared.Heard.{Heard}
-use Rattle.host.specs.Read as hearing
+use Rattle.replies.specs.declared.Heard.{Heard}
+use Rattle.replies.specs.Read as hearing
 
 -- a promise `f a ≡ o` determines a
 abbrev pub Determines : {A O : Type 0} → (A → O) → Type 0

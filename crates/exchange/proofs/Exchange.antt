@@ -16,24 +16,24 @@ use Rattle.laws.proofs.Choice.{pick-no, pick-case, both-true}
 use Rattle.reason.specs.declared.Reason.{Reason}
 use Rattle.reason.specs.Rc.{rcOf}
 use Rattle.reason.proofs.Byte.{rc-byte}
-use Rattle.slot.specs.declared.Slot.{Slot}
-use Rattle.slot.specs.declared.Layout.{Layout}
-use Rattle.slot.specs.declared.Upload.{Upload}
-use Rattle.slot.specs.declared.Plan.{Plan}
-use Rattle.slot.specs.Session.{layoutOk, sessionOk, State, possible}
-use Rattle.slot.specs.Plan.{planOf}
+use Rattle.session.specs.declared.Slot.{Slot}
+use Rattle.session.specs.declared.Layout.{Layout}
+use Rattle.rules.specs.declared.Upload.{Upload}
+use Rattle.rules.specs.declared.Plan.{Plan}
+use Rattle.session.specs.Session.{layoutOk, sessionOk, State, possible}
+use Rattle.rules.specs.Plan.{planOf}
 use Rattle.slot.specs.Act.{done}
-use Rattle.slot.proofs.Laws.{layout-bounds}
+use Rattle.session.proofs.Laws.{layout-bounds}
 use Rattle.smp.specs.declared.Header.{Header}
-use Rattle.smp.specs.declared.Request.{Request}
-use Rattle.smp.specs.declared.Reading.{Reading}
+use Rattle.requests.specs.declared.Request.{Request}
+use Rattle.requests.specs.declared.Reading.{Reading}
 use Rattle.smp.specs.declared.Reply.{Reply as Answered}
 use Rattle.smp.specs.Packet.{headerIn}
-use Rattle.smp.specs.Request.{readRequest}
+use Rattle.requests.specs.Request.{readRequest}
 use Rattle.smp.specs.Reply.{rcMap, replyMap, replyHeader, replyPacket, replyBytes, Sayable}
-use Rattle.smp.proofs.Sound.{is-request, request-sized}
+use Rattle.requests.proofs.Sound.{is-request, request-sized}
 use Rattle.smp.proofs.Writing.{head-word, rc-room, rc-fits, placed-map, placed-fits, packet-length}
-use Rattle.smp.proofs.Shorter.{echo-no-longer}
+use Rattle.requests.proofs.Shorter.{echo-no-longer}
 use Rattle.controller.specs.declared.Response.{Response}
 use Rattle.controller.specs.Inner.{Answerable}
 use Rattle.controller.specs.Doing.{actFor, replyTo, responseFor, responseMap, asksReset}
@@ -41,7 +41,7 @@ use Rattle.controller.specs.Handle.{Taking, Outcome, request, actBy, bytesBy, s
 use Rattle.controller.proofs.Laws.{taking-request, response-answerable}
 use Rattle.controller.proofs.Answered.{always-answered}
 use Rattle.host.specs.Write.{writeUpload}
-use Rattle.host.specs.Read.{reply, readReply}
+use Rattle.replies.specs.Read.{reply, readReply}
 use Rattle.host.specs.Meant.{sent, UploadIs, rcMeant, offMeant, textMeant, TextIs}
 use Rattle.host.proofs.Meant.{group-small, reply-meant, upload-meant}
 use Rattle.exchange.specs.Exchange.{answerIn, Exchanged, Exchange, UploadExchange}

@@ -11,23 +11,23 @@ use Rattle.laws.specs.Choice.{pick}
 use Rattle.laws.specs.Bytes.{Bytes}
 use Rattle.laws.specs.declared.Run.{Run}
 use Rattle.reason.specs.declared.Reason.{Reason}
-use Rattle.slot.specs.declared.Slot.{Slot}
-use Rattle.slot.specs.declared.Layout.{Layout}
-use Rattle.slot.specs.declared.Upload.{Upload}
-use Rattle.slot.specs.Session.{State, possible}
-use Rattle.slot.specs.Plan.{planOf}
+use Rattle.session.specs.declared.Slot.{Slot}
+use Rattle.session.specs.declared.Layout.{Layout}
+use Rattle.rules.specs.declared.Upload.{Upload}
+use Rattle.session.specs.Session.{State, possible}
+use Rattle.rules.specs.Plan.{planOf}
 use Rattle.slot.specs.Act.{done, actOf}
-use Rattle.smp.specs.declared.Request.{Request}
-use Rattle.smp.specs.declared.Reading.{Reading}
+use Rattle.requests.specs.declared.Request.{Request}
+use Rattle.requests.specs.declared.Reading.{Reading}
 use Rattle.smp.specs.declared.Reply.{Reply as Answered}
 use Rattle.smp.specs.Packet.{headerIn}
-use Rattle.smp.specs.Request.{readRequest}
+use Rattle.requests.specs.Request.{readRequest}
 use Rattle.smp.specs.Reply.{replyHeader}
 use Rattle.controller.specs.declared.Response.{Response}
 use Rattle.controller.specs.Doing.{replyTo, responseFor, responseMap}
 use Rattle.controller.specs.Handle.{Outcome, replied, request, saidBy, handle}
 use Rattle.host.specs.Write.{packet, writeUpload}
-use Rattle.host.specs.Read.{reply, readReply}
+use Rattle.replies.specs.Read.{reply, readReply}
 use Rattle.host.specs.Meant.{sent, UploadIs, rcMeant, offMeant, textMeant, TextIs}
 
 -- what is replied to the packet p, where x is the response and m the memory: "An echo reply longer than its buffer becomes rc 7", "a list that

@@ -28,15 +28,15 @@ use Rattle.map.specs.declared.Key.{Key}
 use Rattle.map.specs.Keys.{nameD, nameR}
 use Rattle.map.specs.Fields.{indexOf, firstOf, secondOf, stored, numberIn, runIn, flagIn}
 use Rattle.map.specs.Walk.{mapFrom}
-use Rattle.slot.specs.declared.Upload.{Upload}
-use Rattle.slot.specs.Plan.{above, largest}
+use Rattle.rules.specs.declared.Upload.{Upload}
+use Rattle.rules.specs.Plan.{above, largest}
 use Rattle.smp.specs.declared.Header.{Header}
-use Rattle.smp.specs.declared.Command.{Command}
-use Rattle.smp.specs.declared.Request.{Request}
-use Rattle.smp.specs.declared.Reading.{Reading}
+use Rattle.requests.specs.declared.Command.{Command}
+use Rattle.requests.specs.declared.Request.{Request}
+use Rattle.requests.specs.declared.Reading.{Reading}
 use Rattle.smp.specs.declared.Reply.{Reply as Answered}
 use Rattle.smp.specs.Packet.{headerIn, sized, headerBytes}
-use Rattle.smp.specs.Request.{commandOf, mapped, echoWith, eraseWith, uploadWith, uploadOf, requestOf, isRequest, readRequest}
+use Rattle.requests.specs.Request.{commandOf, mapped, echoWith, eraseWith, uploadWith, uploadOf, requestOf, isRequest, readRequest}
 use Rattle.smp.specs.Reply.{rcMap, replyMap, replyHeader, replyPacket}
 use Rattle.smp.proofs.Headers.{header-length, header-back, sized-back}
 use Rattle.smp.proofs.Writing.{text-map}
@@ -57,7 +57,7 @@ use Rattle.host.specs.Write.{
   writeFirst,
   writeUpload,
 }
-use Rattle.host.specs.Read.{reply, orZero, valuesOf, mapRead, isReply, readReply}
+use Rattle.replies.specs.Read.{reply, orZero, valuesOf, mapRead, isReply, readReply}
 use Rattle.host.specs.Meant.{
   sent,
   headed,

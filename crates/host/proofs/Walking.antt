@@ -21,9 +21,9 @@ use Rattle.map.specs.Fields.{placeOf, nothing, stored}
 use Rattle.map.specs.Walk.{upTo, pairAt, mapFrom}
 use Rattle.map.proofs.Laws.{walked, pair-unsigned, pair-bytes, pair-text, walk-on, walk-end, map-back}
 use Rattle.smp.specs.declared.Header.{Header}
-use Rattle.smp.specs.declared.Reading.{Reading}
+use Rattle.requests.specs.declared.Reading.{Reading}
 use Rattle.smp.specs.Packet.{headerIn, sized, headerBytes}
-use Rattle.smp.specs.Request.{commandOf, requestOf, isRequest, readRequest}
+use Rattle.requests.specs.Request.{commandOf, requestOf, isRequest, readRequest}
 use Rattle.smp.proofs.Headers.{header-back, sized-back}
 
 -- the walk goes on over a pair that was read back

@@ -12,17 +12,17 @@ use Rattle.laws.specs.declared.Run.{Run}
 use Rattle.laws.specs.Choice.{pick, both}
 use Rattle.laws.specs.Parts.{bytesIn, isThere}
 use Rattle.reason.specs.Rc.{rcOf}
-use Rattle.slot.specs.declared.Upload.{Upload}
+use Rattle.rules.specs.declared.Upload.{Upload}
 use Rattle.slot.specs.Act.{dataIn}
 use Rattle.smp.specs.declared.Header.{Header}
-use Rattle.smp.specs.declared.Request.{Request}
-use Rattle.smp.specs.declared.Reading.{Reading}
+use Rattle.requests.specs.declared.Request.{Request}
+use Rattle.requests.specs.declared.Reading.{Reading}
 use Rattle.smp.specs.declared.Reply.{Reply as Answered}
 use Rattle.smp.specs.Packet.{headerIn}
-use Rattle.smp.specs.Request.{readRequest, isRequest}
+use Rattle.requests.specs.Request.{readRequest, isRequest}
 use Rattle.smp.specs.Reply.{replyMap, replyHeader, replyPacket, Sayable}
 use Rattle.host.specs.Write.{requestHeader, Outcome, packet, writeEcho, writeReset, writeErase, writeUpload}
-use Rattle.host.specs.Read.{reply, readReply}
+use Rattle.replies.specs.Read.{reply, readReply}
 
 -- the packet at the start of a buffer, where a writer says that it wrote one of n bytes
 abbrev pub sent : Outcome → ℕ → List ℕ

@@ -18,8 +18,8 @@ use Rattle.cbor.specs.Write.{headOf, unsigned, bytesOf, textOf, mapOf}
 use Rattle.cbor.proofs.Laws.{head-size, form-one}
 use Rattle.cbor.proofs.Numbers.{pasted-before}
 use Rattle.map.specs.Keys.{nameSlot}
-use Rattle.slot.specs.declared.Slot.{Slot}
-use Rattle.slot.specs.declared.Layout.{Layout}
+use Rattle.session.specs.declared.Slot.{Slot}
+use Rattle.session.specs.declared.Layout.{Layout}
 use Rattle.slot.specs.History.{slotIn}
 use Rattle.smp.proofs.Writing.{head-tiny}
 use Rattle.images.specs.declared.Image.{Image}

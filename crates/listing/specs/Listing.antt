@@ -10,8 +10,8 @@ use Rattle.laws.specs.Bytes.{Bytes}
 use Rattle.laws.specs.Parts.{partOf}
 use Rattle.cbor.specs.Write.{headOf, unsigned, bytesOf, textOf, mapOf}
 use Rattle.map.specs.Keys.{nameSlot}
-use Rattle.slot.specs.declared.Slot.{Slot}
-use Rattle.slot.specs.declared.Layout.{Layout}
+use Rattle.session.specs.declared.Slot.{Slot}
+use Rattle.session.specs.declared.Layout.{Layout}
 use Rattle.slot.specs.History.{slotIn}
 use Rattle.images.specs.declared.Image.{Image}
 use Rattle.images.specs.Image.{imageIn}

@@ -1,7 +1,7 @@
 // The list of the images in both slots, written as a reply.
 use images::Image;
-use slot::Layout;
-use slot::Slot;
+use session::Layout;
+use session::Slot;
 use smp::Header;
 ghost use mathlib.Core.Path.{_≡_};
 ghost use mathlib.Core.Bool.{true};
@@ -12,7 +12,7 @@ ghost use Rattle.laws.specs.Bytes.{pasted};
 ghost use Rattle.laws.specs.Parts.{partOf};
 ghost use Rattle.cbor.specs.Inner.{Put};
 ghost use Rattle.cbor.specs.Write.{bytesOf, textOf};
-ghost use Rattle.slot.specs.Session.{layoutOk};
+ghost use Rattle.session.specs.Session.{layoutOk};
 ghost use Rattle.slot.specs.History.{slotIn};
 ghost use Rattle.smp.specs.Reply.{replyPacket};
 ghost use Rattle.smp.specs.Inner.{Written};

@@ -19,11 +19,11 @@ use Rattle.map.specs.declared.Key.{Key}
 use Rattle.map.specs.Fields.{indexOf, numberIn, runIn}
 use Rattle.map.specs.Walk.{mapFrom}
 use Rattle.map.proofs.Sound.{map-run}
-use Rattle.slot.specs.Plan.{above, largest}
+use Rattle.rules.specs.Plan.{above, largest}
 use Rattle.smp.specs.Packet.{sized}
 use Rattle.smp.proofs.Headers.{two-bytes}
-use Rattle.host.specs.declared.Reply.{Reply}
-use Rattle.host.specs.Read.{Said, reply, refused, orZero, valuesOf, mapRead, isReply, readReply}
+use Rattle.replies.specs.declared.Reply.{Reply}
+use Rattle.replies.specs.Read.{Said, reply, refused, orZero, valuesOf, mapRead, isReply, readReply}
 use Rattle.records.specs.Records.{runStart, runLength}
 use Rattle.records.specs.Inner.{ReplySmall}
 

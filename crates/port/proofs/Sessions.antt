@@ -14,18 +14,18 @@ use Rattle.refusal.specs.Number.{numberOf}
 use Rattle.reason.specs.Rc.{rcOf}
 use Rattle.cbor.specs.Write.{headOf}
 use Rattle.cbor.proofs.Laws.{head-long, len-most}
-use Rattle.slot.specs.declared.Slot.{Slot}
-use Rattle.slot.specs.declared.Layout.{Layout}
-use Rattle.slot.specs.declared.Session.{Session}
-use Rattle.slot.specs.Session.{layoutOk, sessionOk, State, stateOf, possible}
+use Rattle.session.specs.declared.Slot.{Slot}
+use Rattle.session.specs.declared.Layout.{Layout}
+use Rattle.session.specs.declared.Session.{Session}
+use Rattle.session.specs.Session.{layoutOk, sessionOk, State, stateOf, possible}
 use Rattle.slot.specs.Act.{Act, done}
 use Rattle.slot.specs.History.{Fit}
-use Rattle.slot.proofs.Laws.{region-bounds, layout-bounds}
+use Rattle.session.proofs.Laws.{region-bounds, layout-bounds}
 use Rattle.smp.specs.declared.Header.{Header}
 use Rattle.smp.specs.declared.Reply.{Reply}
-use Rattle.smp.specs.declared.Reading.{Reading}
+use Rattle.requests.specs.declared.Reading.{Reading}
 use Rattle.smp.specs.Packet.{headerIn}
-use Rattle.smp.specs.Request.{readRequest}
+use Rattle.requests.specs.Request.{readRequest}
 use Rattle.smp.specs.Reply.{rcMap, replyMap, replyPacket, replyBytes}
 use Rattle.smp.proofs.Writing.{rc-length, placed-length, packet-length, rc-map, text-map}
 use Rattle.listing.specs.Listing.{listMap}

@@ -7,10 +7,10 @@ use Rattle.collector.specs.Collector as collecting
 use Rattle.reader.specs.declared.Reader.{Reader}
 use Rattle.reader.specs.Reader as reading
 use Rattle.sender.specs.Sender as sending
-use Rattle.slot.specs.Session as slots
+use Rattle.session.specs.Session as slots
 use Rattle.controller.specs.Handle as handling
 use Rattle.host.specs.Write as writing
-use Rattle.host.specs.Read as hearing
+use Rattle.replies.specs.Read as hearing
 use Rattle.records.specs.Records.{layoutOf, collectorOf, collectorNumbers, readerOf, readerNumbers, sessionOf, sessionNumbers, replyNumbers}
 use Rattle.records.specs.Results.{stepResult, stepLength, wentOn, keepsRecord, WroteC, wroteBy}
 

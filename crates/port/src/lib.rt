@@ -1,9 +1,9 @@
 // The C interface: both ends of the port as functions on numbers, byte slices and small arrays of numbers. include/belagunthi.h declares
 // them, with each promise beside its call.
-use host::Heard;
 use reader::Answer;
+use replies::Heard;
 use sender::Sent;
-use slot::Configured;
+use session::Configured;
 ghost use mathlib.Core.Path.{_≡_};
 ghost use Rattle.port.specs.Calls.{collectedC, tookLine, handledC, wroteC, sentFrame, configuredC, readC};
 ghost use Rattle.host.specs.Write.{writeEcho, writeReset, writeErase, writeUpload, nextSequence};
@@ -214,7 +214,7 @@ pub extern "C" fn bg_configure(
         (now (session .entry)) (now (tag .entry)) ⌝ }
 {
     let regions = records::layout_from(layout[0], layout[1], layout[2], layout[3]);
-    match slot::configure(regions, room) {
+    match session::configure(regions, room) {
         Configured::Ready(_) => {
             *session = [0u32; 4];
             *tag = [0u8; 32];
@@ -231,7 +231,7 @@ pub extern "C" fn bg_configure(
 pub extern "C" fn bg_read_reply(packet: &[u8], reply: &mut [u32; 12]) -> u32
     ensures { λ r. ⌜ record { result = r; reply = now (reply .exit) } ≡ readC (now (packet .entry)) (now (reply .entry)) ⌝ }
 {
-    match host::read_reply(packet) {
+    match replies::read_reply(packet) {
         Heard::Reply(heard) => {
             *reply = records::reply_numbers(heard);
             return 0;

@@ -3,9 +3,9 @@
 use Prim.Native.Nat.{_≤_, _<_}
 use Rattle.reader.specs.declared.Reader.{Reader}
 use Rattle.reader.specs.declared.Reader.the-variants.{Idle, Open}
-use Rattle.slot.specs.declared.Session.{Session}
-use Rattle.host.specs.declared.Reply.{Reply}
-use Rattle.host.specs.Read.{orZero}
+use Rattle.session.specs.declared.Session.{Session}
+use Rattle.replies.specs.declared.Reply.{Reply}
+use Rattle.replies.specs.Read.{orZero}
 use Rattle.records.specs.Records.{runStart, runLength}
 
 -- a reader's record whose numbers fit

@@ -11,11 +11,11 @@ use Rattle.laws.specs.Choice.{pick}
 use Rattle.collector.specs.declared.Collector.{Collector}
 use Rattle.reader.specs.declared.Reader.{Reader}
 use Rattle.reader.specs.declared.Reader.the-variants.{Idle, Open}
-use Rattle.slot.specs.declared.Layout.{Layout}
-use Rattle.slot.specs.declared.Session.{Session}
+use Rattle.session.specs.declared.Layout.{Layout}
+use Rattle.session.specs.declared.Session.{Session}
 use Rattle.map.specs.Fields.{flagNumber}
-use Rattle.host.specs.declared.Reply.{Reply}
-use Rattle.host.specs.Read.{orZero}
+use Rattle.replies.specs.declared.Reply.{Reply}
+use Rattle.replies.specs.Read.{orZero}
 
 -- a number as a flag: 0 is false
 abbrev pub flagOf : ℕ → Bool

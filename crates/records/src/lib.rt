@@ -1,14 +1,14 @@
 // The records and answers of both ends as arrays of numbers, and back.
 use collector::Collector;
 use collector::Got;
-use host::Reply;
 use host::Written;
 use laws::Number;
 use laws::Run;
 use reader::Reader;
-use slot::Layout;
-use slot::Session;
-use slot::Slot;
+use replies::Reply;
+use session::Layout;
+use session::Session;
+use session::Slot;
 ghost use mathlib.Core.Path.{_≡_};
 ghost use mathlib.Core.List.{List};
 ghost use Prim.Native.Nat.{_≤_, ℕ};
@@ -21,7 +21,7 @@ ghost use Rattle.records.specs.Records.{sessionFrom, thereOf, runThere, 
 ghost use Rattle.records.specs.Results.{stepResult, stepLength, wentOn, keepsRecord, wroteBy};
 ghost use Rattle.records.specs.Inner.{Storable, Held32, ReplySmall};
 ghost use Rattle.host.specs.Write.{told, packet};
-ghost use Rattle.host.specs.Read.{orZero};
+ghost use Rattle.replies.specs.Read.{orZero};
 
 // The reader's record out of its four numbers.
 pub fn reader_from(open: u32, total: u32, come: u32, first: u32) -> Reader

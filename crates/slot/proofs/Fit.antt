@@ -14,13 +14,13 @@ use Rattle.laws.specs.declared.Number.{Number}
 use Rattle.laws.specs.Choice.{both}
 use Rattle.laws.proofs.Choice.{pick-case}
 use Rattle.reason.specs.declared.Reason.{Reason}
-use Rattle.slot.specs.declared.Slot.{Slot}
-use Rattle.slot.specs.declared.Session.{Session}
-use Rattle.slot.specs.declared.Upload.{Upload}
-use Rattle.slot.specs.declared.Plan.{Plan}
-use Rattle.slot.specs.declared.Plan.the-variants.{Refuse, Tell, Append, Start}
-use Rattle.slot.specs.Session.{State}
-use Rattle.slot.specs.Plan.{largest, above, misSized, sameTag, planLater, planSized, planLength, planFirst, planOf}
+use Rattle.session.specs.declared.Slot.{Slot}
+use Rattle.session.specs.declared.Session.{Session}
+use Rattle.rules.specs.declared.Upload.{Upload}
+use Rattle.rules.specs.declared.Plan.{Plan}
+use Rattle.rules.specs.declared.Plan.the-variants.{Refuse, Tell, Append, Start}
+use Rattle.session.specs.Session.{State}
+use Rattle.rules.specs.Plan.{largest, above, misSized, sameTag, planLater, planSized, planLength, planFirst, planOf}
 use Rattle.slot.specs.Act.{keep, append, erase, end, dataIn, actOf}
 use Rattle.slot.specs.History.{Fit}
 

@@ -24,11 +24,11 @@ use lib.ListN.{
 use lib.Seq.{take-at, drop-at, take-take, take-add, drop-drop, length-take-le, take-append-add, take-append-le, drop-append-add, drop-append-le}
 use Rattle.laws.specs.Bytes.{pasted}
 use Rattle.laws.proofs.Lists.{pasted-is, pasted-start, pasted-length, pasted-take, pasted-drop}
-use Rattle.slot.specs.declared.Slot.{Slot}
-use Rattle.slot.specs.Session.{regionOk, overlapping, sessionOk, State, closed}
+use Rattle.session.specs.declared.Slot.{Slot}
+use Rattle.session.specs.Session.{regionOk, overlapping, sessionOk, State, closed}
 use Rattle.slot.specs.Act.{Act, keep, append, start, erase, end, blank, done}
 use Rattle.slot.specs.History.{Fit, History, begun, went, written, slotIn, Held, Demand, CutFrom, Sending, starts, goes-on, Unbroken, SameMemory}
-use Rattle.slot.proofs.Laws.{region-bounds, layout-bounds, session-bounds, session-is, session-closed}
+use Rattle.session.proofs.Laws.{region-bounds, layout-bounds, session-bounds, session-is, session-closed}
 
 -- equal bytes without the first of them
 drop-replicate : (k n v : ℕ) → k ≤ n → drop k (replicate n v) ≡ replicate (n - k) v

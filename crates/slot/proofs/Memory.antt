@@ -8,12 +8,12 @@ use native.Mathlib.Omega.{arith}
 use lib.ListN.{length, take, drop, replicate, length-drop, length-replicate}
 use lib.Seq.{drop-drop, length-take-le}
 use Rattle.laws.proofs.Lists.{pasted-is, pasted-length}
-use Rattle.slot.specs.declared.Slot.{Slot}
-use Rattle.slot.specs.declared.Session.{Session}
-use Rattle.slot.specs.Session.{regionOk, sessionOk}
+use Rattle.session.specs.declared.Slot.{Slot}
+use Rattle.session.specs.declared.Session.{Session}
+use Rattle.session.specs.Session.{regionOk, sessionOk}
 use Rattle.slot.specs.Act.{append, blank}
 use Rattle.slot.specs.History.{Fit}
-use Rattle.slot.proofs.Laws.{region-bounds, session-bounds}
+use Rattle.session.proofs.Laws.{region-bounds, session-bounds}
 
 -- the slot's part set to 255, seen in the whole
 pub cleared : (slot : Slot) (e : ℕ) (m ys : List ℕ) → e ≡ slot .start + slot .size → e ≤ length m

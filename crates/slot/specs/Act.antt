@@ -8,12 +8,12 @@ use Rattle.laws.specs.declared.Run.{Run}
 use Rattle.laws.specs.Choice.{pick}
 use Rattle.laws.specs.Bytes.{pasted}
 use Rattle.laws.specs.Parts.{partOf, bytesIn, isThere}
-use Rattle.slot.specs.declared.Slot.{Slot}
-use Rattle.slot.specs.declared.Session.{Session}
-use Rattle.slot.specs.declared.Upload.{Upload}
-use Rattle.slot.specs.declared.Plan.{Plan}
-use Rattle.slot.specs.declared.Plan.the-variants.{Refuse, Tell, Append, Start}
-use Rattle.slot.specs.Session.{State, stateOf, noTag, closedIn}
+use Rattle.session.specs.declared.Slot.{Slot}
+use Rattle.session.specs.declared.Session.{Session}
+use Rattle.rules.specs.declared.Upload.{Upload}
+use Rattle.rules.specs.declared.Plan.{Plan}
+use Rattle.rules.specs.declared.Plan.the-variants.{Refuse, Tell, Append, Start}
+use Rattle.session.specs.Session.{State, stateOf, noTag, closedIn}
 
 -- what may be done: nothing; data added at the session's place, with the offset that its request names; a session started, with its length,
 -- whether it has a tag, the tag and the first data; the slot erased; the session ended

@@ -6,10 +6,10 @@ use mathlib.Core.Path.{_≡_}
 use mathlib.Core.Bool.{Bool, true, false}
 use mathlib.Core.List.{List, [], _∷_, _++_}
 use lib.ListN.{length, take, drop, replicate}
-use Rattle.slot.specs.declared.Slot.{Slot}
-use Rattle.slot.specs.declared.Layout.{Layout}
-use Rattle.slot.specs.declared.Session.{Session}
-use Rattle.slot.specs.Session.{regionOk, layoutOk, sessionOk, State}
+use Rattle.session.specs.declared.Slot.{Slot}
+use Rattle.session.specs.declared.Layout.{Layout}
+use Rattle.session.specs.declared.Session.{Session}
+use Rattle.session.specs.Session.{regionOk, layoutOk, sessionOk, State}
 use Rattle.slot.specs.Act.{Act, keep, append, start, erase, end, done}
 
 -- an act that the upload rules may come to in a session: data is added only to an open session, at the offset that its request names, which

@@ -1,4 +1,2 @@
-pub mod Session
-pub mod Plan
 pub mod Act
 pub mod History

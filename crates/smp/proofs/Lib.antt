@@ -1,4 +1,2 @@
 pub mod Headers
 pub mod Writing
-pub mod Sound
-pub mod Shorter

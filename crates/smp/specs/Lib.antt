@@ -1,4 +1,3 @@
 pub mod Packet
-pub mod Request
 pub mod Reply
 pub mod Inner

@@ -2,12 +2,10 @@
 -- Assumes nothing.
 use Prim.{Unit}
 use Prim.Native.Nat.{ℕ, _+_, _≤_, _<_}
-use mathlib.Core.Path.{_≡_}
 use mathlib.Core.List.{List, _++_}
 use lib.Dec.{ltb}
 use lib.ListN.{length}
 use Rattle.laws.specs.Choice.{pick}
-use Rattle.laws.specs.Bytes.{Bytes}
 use Rattle.laws.specs.Parts.{partOf}
 use Rattle.reason.specs.declared.Reason.{Reason}
 use Rattle.reason.specs.Rc.{rcOf}
@@ -15,10 +13,7 @@ use Rattle.cbor.specs.Write.{unsigned, textOf, mapOf}
 use Rattle.map.specs.Keys.{nameR, nameRc, nameOff}
 use Rattle.smp.specs.declared.Header.{Header}
 use Rattle.smp.specs.declared.Reply.{Reply}
-use Rattle.smp.specs.declared.Request.{Request}
-use Rattle.smp.specs.declared.Reading.{Reading}
 use Rattle.smp.specs.Packet.{headerBytes}
-use Rattle.smp.specs.Request.{readRequest}
 
 -- {"rc": n}
 abbrev pub rcMap : ℕ → List ℕ
@@ -50,9 +45,3 @@ Sayable s (Reply.Refused why) = Unit {0}
 Sayable s Reply.Done = Unit {0}
 Sayable s (Reply.Placed n) = n < 4294967296
 Sayable s (Reply.Text start len) = (start + len ≤ length s) × (length s ≤ 65533)
-
--- the reply to an echo is no longer than its request
-abbrev pub EchoNoLonger : Type 0
-EchoNoLonger =
-    (s : List ℕ) (start len : ℕ) → Bytes s → readRequest s ≡ Reading.Is (Request.Echo start len)
-    → 8 + length (replyMap s (Reply.Text start len)) ≤ length s

@@ -17,11 +17,11 @@ use Rattle.sender.specs.Sender.{frameCount, rawOf, startOf, stopOf, pieceOf, fr
 use Rattle.cbor.specs.Write.{beBytes, headOf}
 use Rattle.map.specs.Fields.{indexOf, runIn}
 use Rattle.map.specs.Walk.{mapFrom}
-use Rattle.slot.specs.Session.{regionOk, overlapping, layoutOk, sessionOk}
-use Rattle.slot.specs.Plan.{above, misSized, sameTag, planLater, planSized, planLength, planFirst, planOf}
+use Rattle.session.specs.Session.{regionOk, overlapping, layoutOk, sessionOk}
+use Rattle.rules.specs.Plan.{above, misSized, sameTag, planLater, planSized, planLength, planFirst, planOf}
 use Rattle.slot.specs.Act.{done}
 use Rattle.smp.specs.Packet.{sized, headerBytes}
-use Rattle.smp.specs.Request.{commandOf, mapped, echoWith, requestOf, isRequest, readRequest}
+use Rattle.requests.specs.Request.{commandOf, mapped, echoWith, requestOf, isRequest, readRequest}
 use Rattle.smp.specs.Reply.{replyMap, replyPacket, replyBytes}
 use Rattle.controller.specs.Doing.{actFor, responseFor, responseMap, asksReset}
 use Rattle.controller.specs.Handle.{asked, taking, actBy, bytesBy, saidBy, handled}

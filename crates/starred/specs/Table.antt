@@ -10,12 +10,12 @@ use Rattle.laws.specs.Choice.{both}
 use Rattle.laws.specs.Bytes.{same}
 use Rattle.reason.specs.Rc.{rcOf}
 use Rattle.sender.specs.Sender.{frameCount, frameOf}
-use Rattle.slot.specs.declared.Slot.{Slot}
-use Rattle.slot.specs.declared.Layout.{Layout}
-use Rattle.slot.specs.declared.Upload.{Upload}
-use Rattle.slot.specs.declared.Plan.{Plan}
-use Rattle.slot.specs.Session.{State, stateOf, noTag, closedIn}
-use Rattle.slot.specs.Plan.{planOf}
+use Rattle.session.specs.declared.Slot.{Slot}
+use Rattle.session.specs.declared.Layout.{Layout}
+use Rattle.rules.specs.declared.Upload.{Upload}
+use Rattle.rules.specs.declared.Plan.{Plan}
+use Rattle.session.specs.Session.{State, stateOf, noTag, closedIn}
+use Rattle.rules.specs.Plan.{planOf}
 use Rattle.smp.specs.declared.Reply.{Reply}
 use Rattle.smp.specs.Reply.{replyMap}
 use Rattle.controller.specs.Handle.{handle}

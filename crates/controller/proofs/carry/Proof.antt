@@ -1,12 +1,12 @@
 -- `controller::carry` meets its contract, request by request.
 -- Assumes nothing.
 use mathlib.Core.Path.{sym, ap, subst, _∙_}
-use Rattle.slot.specs.declared.Session.{Session}
-use Rattle.slot.specs.Session.{stateOf, noTag}
+use Rattle.session.specs.declared.Session.{Session}
+use Rattle.session.specs.Session.{stateOf, noTag}
 use Rattle.slot.specs.Act.{done}
-use Rattle.smp.specs.declared.Request.{Request}
-use Rattle.smp.specs.declared.Reading.{Reading}
-use Rattle.smp.proofs.Sound.{upload-inside}
+use Rattle.requests.specs.declared.Request.{Request}
+use Rattle.requests.specs.declared.Reading.{Reading}
+use Rattle.requests.proofs.Sound.{upload-inside}
 use Rattle.controller.specs.Doing.{actFor, responseFor}
 use Rattle.controller.specs.Inner.{Carried}
 use borrow.Author.Needs.{needs}

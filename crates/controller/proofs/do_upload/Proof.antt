@@ -1,9 +1,9 @@
 -- `controller::do_upload` meets its contract: what the slot plans and carries out is the request's act, and the reply is the plan's.
 -- Assumes nothing.
 use mathlib.Core.Path.{_≡_, ap, _∙_}
-use Rattle.slot.specs.declared.Plan.{Plan}
-use Rattle.slot.specs.Session.{stateOf}
-use Rattle.slot.specs.Plan.{planOf}
+use Rattle.rules.specs.declared.Plan.{Plan}
+use Rattle.session.specs.Session.{stateOf}
+use Rattle.rules.specs.Plan.{planOf}
 use Rattle.slot.specs.Act.{done, actOf}
 use Rattle.controller.specs.declared.Response.{Response}
 use Rattle.controller.specs.Doing.{actFor, responseFor, replyTo}

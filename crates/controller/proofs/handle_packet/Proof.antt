@@ -3,7 +3,7 @@
 use mathlib.Core.Path.{sym, ap, _∙_}
 use native.Mathlib.Omega.{arith}
 use borrow.Author.Tests.{not-true, not-false}
-use Rattle.slot.specs.Session.{stateOf}
+use Rattle.session.specs.Session.{stateOf}
 use Rattle.controller.specs.Handle.{handled}
 use Rattle.controller.proofs.Laws.{taking-impossible, taking-short, taking-other, taking-request, handle-refused}
 use borrow.Author.Needs.{needs}

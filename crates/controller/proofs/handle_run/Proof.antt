@@ -5,8 +5,8 @@ use mathlib.Core.List.{List}
 use Prim.Native.Nat.{ℕ, _+_, _*_, _-_, _≤_}
 use native.Mathlib.Omega.{arith}
 use lib.ListN.{length, take, drop}
-use Rattle.slot.specs.declared.Session.{Session}
-use Rattle.slot.specs.Session.{stateOf, noTag, closedIn}
+use Rattle.session.specs.declared.Session.{Session}
+use Rattle.session.specs.Session.{stateOf, noTag, closedIn}
 use Rattle.controller.specs.Handle.{handle}
 use Rattle.controller.specs.Calls.{sizeAt}
 use Rattle.controller.proofs.Calls.{Come, come-none, come-more, come-end, run-cut, run-end}

@@ -1,8 +1,8 @@
 -- `controller::reply_to` meets its contract, case by case.
 -- Assumes nothing.
 use mathlib.Core.Path.{sym, ap}
-use Rattle.slot.specs.declared.Plan.{Plan}
-use Rattle.slot.specs.Session.{stateOf}
+use Rattle.rules.specs.declared.Plan.{Plan}
+use Rattle.session.specs.Session.{stateOf}
 use Rattle.controller.specs.Doing.{replyTo}
 use borrow.Author.Needs.{needs}
 use Rattle.controller.proofs.reply_to.Statement.{statement}

@@ -6,10 +6,10 @@ use Prim.Native.Nat.{ℕ}
 use native.Mathlib.Omega.{arith}
 use lib.ListN.{length}
 use Rattle.laws.proofs.Choice.{both-true}
-use Rattle.slot.specs.Session.{layoutOk, sessionOk, State, stateOf}
+use Rattle.session.specs.Session.{layoutOk, sessionOk, State, stateOf}
 use Rattle.slot.specs.Act.{done}
-use Rattle.slot.proofs.Laws.{layout-bounds}
-use Rattle.smp.proofs.Sound.{request-sized}
+use Rattle.session.proofs.Laws.{layout-bounds}
+use Rattle.requests.proofs.Sound.{request-sized}
 use Rattle.controller.specs.Doing.{actFor, responseFor}
 use Rattle.controller.specs.Inner.{Answerable}
 use Rattle.controller.proofs.Laws.{carried-reset, carried-plain, response-answerable}

@@ -5,7 +5,7 @@ use mathlib.Core.List.{List}
 use Prim.Native.Nat.{ℕ, _+_}
 use native.Mathlib.Omega.{arith}
 use Rattle.slot.specs.History.{slotIn}
-use Rattle.slot.proofs.Laws.{layout-bounds, region-bounds}
+use Rattle.session.proofs.Laws.{layout-bounds, region-bounds}
 use Rattle.smp.proofs.Writing.{put-three, room-one, room-two, room-three, packet-put}
 use Rattle.listing.specs.Listing.{imageMap, listMap}
 use Rattle.listing.specs.Inner.{listFront}

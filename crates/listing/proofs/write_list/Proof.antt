@@ -6,7 +6,7 @@ use Prim.Native.Nat.{ℕ, _+_}
 use native.Mathlib.Omega.{arith}
 use lib.ListN.{length}
 use borrow.Author.Tests.{le-ltb, lt-ltb}
-use Rattle.slot.proofs.Laws.{layout-bounds, region-bounds}
+use Rattle.session.proofs.Laws.{layout-bounds, region-bounds}
 use Rattle.smp.proofs.Writing.{written-whole, written-seven}
 use Rattle.listing.specs.Listing.{listMap}
 use Rattle.listing.specs.Inner.{imageLength}

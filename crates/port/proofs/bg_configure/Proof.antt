@@ -2,9 +2,9 @@
 -- Assumes nothing.
 use mathlib.Core.Path.{sym, ap, _∙_}
 use Prim.Native.Nat.{ℕ}
-use Rattle.slot.specs.declared.Configured.{Configured}
-use Rattle.slot.specs.declared.Layout.{Layout}
-use Rattle.slot.specs.Session.{Said, said, configured}
+use Rattle.session.specs.declared.Configured.{Configured}
+use Rattle.session.specs.declared.Layout.{Layout}
+use Rattle.session.specs.Session.{Said, said, configured}
 use Rattle.map.specs.Fields.{flagNumber}
 use Rattle.records.specs.Records.{sessionNumbers}
 use Rattle.port.specs.Calls.{ConfiguredC, configuredBy, configuredC}

@@ -2,7 +2,7 @@
 -- Assumes nothing.
 use mathlib.Core.Path.{sym, subst, _∙_}
 use native.Mathlib.Omega.{arith}
-use Rattle.slot.specs.Session.{stateOf}
+use Rattle.session.specs.Session.{stateOf}
 use Rattle.controller.specs.declared.Answer.{Answer}
 use Rattle.controller.specs.Handle.{said}
 use Rattle.port.proofs.Sessions.{SaidSmall, handled-is, handled-replied, handled-reset, handled-refused, given-small}

@@ -4,8 +4,8 @@ use mathlib.Core.Path.{sym, ap, _∙_}
 use mathlib.Core.List.{List}
 use Prim.Native.Nat.{ℕ}
 use native.Mathlib.Omega.{arith}
-use Rattle.host.specs.declared.Heard.{Heard}
-use Rattle.host.specs.Read.{Said, said}
+use Rattle.replies.specs.declared.Heard.{Heard}
+use Rattle.replies.specs.Read.{Said, said}
 use Rattle.port.specs.Calls.{ReadC, readBy, readC}
 use Rattle.port.proofs.Reading.{reply-small}
 use borrow.Author.Needs.{needs}

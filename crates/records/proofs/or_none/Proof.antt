@@ -2,7 +2,7 @@
 -- Assumes nothing.
 use mathlib.Core.Path.{sym, ap}
 use native.Mathlib.Omega.{arith}
-use Rattle.host.specs.Read.{orZero}
+use Rattle.replies.specs.Read.{orZero}
 use borrow.Author.Needs.{needs}
 use Rattle.records.proofs.or_none.Statement.{statement}
 use Rattle.records.proofs.or_none.Tie as tie

@@ -6,8 +6,8 @@ use Prim.Native.Nat.{ℕ, _+_}
 use native.Mathlib.Omega.{arith}
 use lib.ListN.{length, length-take, length-drop}
 use Rattle.laws.proofs.Lists.{copied-part}
-use Rattle.slot.specs.declared.Session.{Session}
-use Rattle.slot.specs.Session.{stateOf}
+use Rattle.session.specs.declared.Session.{Session}
+use Rattle.session.specs.Session.{stateOf}
 use Rattle.slot.specs.Act.{done}
 use Rattle.slot.proofs.Memory.{Room, append-room}
 use borrow.Author.Needs.{needs}

@@ -6,12 +6,12 @@ use mathlib.Core.List.{List}
 use Prim.Native.Nat.{ℕ}
 use native.Mathlib.Omega.{arith}
 use lib.ListN.{length}
-use Rattle.slot.specs.declared.Plan.{Plan}
-use Rattle.slot.specs.declared.Plan.the-variants.{Append, Start}
-use Rattle.slot.specs.Session.{State, stateOf}
+use Rattle.rules.specs.declared.Plan.{Plan}
+use Rattle.rules.specs.declared.Plan.the-variants.{Append, Start}
+use Rattle.session.specs.Session.{State, stateOf}
 use Rattle.slot.specs.Act.{Act, dataIn, tagKept, done, actOf}
 use Rattle.slot.specs.History.{Fit}
-use Rattle.slot.proofs.Laws.{part-cut}
+use Rattle.rules.proofs.Laws.{part-cut}
 use Rattle.slot.proofs.Fit.{fit-at-place, planned-fit, started-tag}
 use borrow.Author.Needs.{needs}
 use Rattle.slot.proofs.carry_out.Statement.{statement}

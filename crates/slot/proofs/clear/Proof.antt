@@ -3,7 +3,7 @@
 use native.Mathlib.Omega.{arith}
 use Prim.Native.Nat.{_≤_}
 use lib.ListN.{length}
-use Rattle.slot.proofs.Laws.{Region, region-bounds}
+use Rattle.session.proofs.Laws.{Region, region-bounds}
 use Rattle.slot.proofs.Memory.{cleared}
 use borrow.Author.Needs.{needs}
 use Rattle.slot.proofs.clear.Statement.{statement}

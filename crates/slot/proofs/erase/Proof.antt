@@ -3,8 +3,8 @@
 use mathlib.Core.Path.{ap₂}
 use mathlib.Core.List.{List}
 use Prim.Native.Nat.{ℕ}
-use Rattle.slot.specs.declared.Session.{Session}
-use Rattle.slot.specs.Session.{stateOf, noTag}
+use Rattle.session.specs.declared.Session.{Session}
+use Rattle.session.specs.Session.{stateOf, noTag}
 use Rattle.slot.specs.Act.{done}
 use borrow.Author.Needs.{needs}
 use Rattle.slot.proofs.erase.Statement.{statement}

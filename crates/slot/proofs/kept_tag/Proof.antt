@@ -4,8 +4,9 @@ use mathlib.Core.Path.{refl, sym, _∙_}
 use Prim.Native.Nat.{_+_, _≤_}
 use native.Mathlib.Omega.{arith}
 use lib.ListN.{length}
-use Rattle.slot.specs.Session.{noTag}
-use Rattle.slot.proofs.Laws.{tag-size, within-at, part-size, part-copied, kept-none, kept-tag}
+use Rattle.session.specs.Session.{noTag}
+use Rattle.rules.proofs.Laws.{tag-size, within-at}
+use Rattle.slot.proofs.Laws.{part-size, part-copied, kept-none, kept-tag}
 use borrow.Author.Needs.{needs}
 use Rattle.slot.proofs.kept_tag.Statement.{statement}
 use Rattle.slot.proofs.kept_tag.Tie as tie

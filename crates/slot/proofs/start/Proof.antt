@@ -7,7 +7,7 @@ use native.Mathlib.Omega.{arith}
 use lib.ListN.{length, length-take, length-drop}
 use Rattle.laws.specs.Bytes.{pasted}
 use Rattle.laws.proofs.Lists.{copied-part}
-use Rattle.slot.specs.Session.{stateOf}
+use Rattle.session.specs.Session.{stateOf}
 use Rattle.slot.specs.Act.{blank, opened, done}
 use Rattle.slot.proofs.Memory.{blank-room}
 use borrow.Author.Needs.{needs}
