@@ -4,7 +4,7 @@
 #include <stdbool.h>
 #include <string.h>
 
-enum { LUMP = 256, HELD = 126, LINE = 127, RAW = 93, BODY_MIN = 8, BODY_MAX = 65533, ONE_FRAME_BELOW = 89, FIRST = 91 };
+enum { LUMP = 256, HELD = 126, LINE = 127, RAW = 93, BODY_MIN = 8, BODY_MAX = 65533, ONE_FRAME = 89, FIRST = 91 };
 
 static const uint16_t crc_table[256] = {
     0x0000, 0x1021, 0x2042, 0x3063, 0x4084, 0x50A5, 0x60C6, 0x70E7, 0x8108, 0x9129, 0xA14A, 0xB16B,
@@ -263,7 +263,7 @@ uint32_t plain_take_line(uint32_t reader[4], const uint8_t *line, size_t line_le
 /* The number of frames that a body is cut into. */
 static size_t frame_count(size_t body_len)
 {
-    if (body_len < ONE_FRAME_BELOW)
+    if (body_len <= ONE_FRAME)
         return 1;
     if (body_len <= 2 * FIRST)
         return 2;

@@ -5,14 +5,14 @@ use crate::crc;
 use crate::reader::{INITIAL, LINE, PARTIAL};
 use crate::refusal::Refusal;
 
-/// A body shorter than this goes in one frame.
-pub const ONE_FRAME_BELOW: usize = 89;
+/// The longest body that goes in one frame.
+pub const ONE_FRAME: usize = 89;
 /// The shortest and the longest body.
 pub const BODY: std::ops::RangeInclusive<usize> = 8..=65_533;
 
 /// The frames of a body in order, each with its marker and how many body bytes it carries; the last carries the CRC too.
 pub fn cut(body: usize) -> Vec<([u8; 2], usize)> {
-    if body < ONE_FRAME_BELOW {
+    if body <= ONE_FRAME {
         return vec![(INITIAL, body)];
     }
     let mut left = body;

@@ -122,11 +122,16 @@ fn data_01_at_512() {
 fn frames_of_bodies_at_the_edges() {
     let lengths = |length| lines(&body(length)).iter().map(Vec::len).collect::<Vec<_>>();
     assert_eq!(lengths(88), [127]);
-    assert_eq!(lengths(89), [127, 7]);
+    assert_eq!(lengths(89), [127]);
     assert_eq!(lengths(90), [127, 7]);
     assert_eq!(lengths(91), [127, 7]);
-    assert_eq!(lengths(182).len(), 2);
-    assert_eq!(lengths(183).len(), 3);
+    assert_eq!(lengths(92), [127, 7]);
+    assert_eq!(lengths(93), [127, 11]);
+    assert_eq!(lengths(182), [127, 127]);
+    assert_eq!(lengths(183), [127, 127, 7]);
+    assert_eq!(lengths(184), [127, 127, 7]);
+    assert_eq!(lengths(275), [127, 127, 127]);
+    assert_eq!(lengths(276), [127, 127, 127, 7]);
     assert_eq!(lengths(65_533).len(), 705);
 }
 
@@ -134,8 +139,8 @@ fn frames_of_bodies_at_the_edges() {
 fn frame_count_is_the_formula() {
     for length in 8..=65_533usize {
         let formula = match length {
-            0..=88 => 1,
-            89..=182 => 2,
+            0..=89 => 1,
+            90..=182 => 2,
             _ => 2 + (length - 182 + 92) / 93,
         };
         assert_eq!(sender::cut(length).len(), formula);
@@ -149,7 +154,8 @@ fn sender_refuses() {
     assert_eq!(port::send_frame(&[0; 7], 9, &mut [0; 127], &mut sent), 12);
     assert_eq!(port::send_frame(&[0; 65_534], 0, &mut [0; 127], &mut sent), 12);
     assert_eq!(port::send_frame(&[0; 8], 1, &mut [0; 127], &mut sent), 13);
-    assert_eq!(port::send_frame(&[0; 89], 2, &mut [0; 127], &mut sent), 13);
+    assert_eq!(port::send_frame(&[0; 89], 1, &mut [0; 127], &mut sent), 13);
+    assert_eq!(port::send_frame(&[0; 90], 2, &mut [0; 127], &mut sent), 13);
     assert_eq!(port::send_frame(&[0; 8], usize::MAX, &mut [0; 127], &mut sent), 13);
     assert_eq!(sent, [5, 6]);
 }

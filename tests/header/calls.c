@@ -65,7 +65,7 @@ static void check_collector(void)
 /* Sends a body of eight zero bytes, and refuses what cannot be sent. */
 static void check_sender(void)
 {
-    const uint8_t body[89] = {0};
+    const uint8_t body[90] = {0};
     uint8_t out[BG_LINE + 1];
     uint32_t sent[2] = {7, 7};
 
@@ -80,10 +80,12 @@ static void check_sender(void)
     check(same(out, "\006\011AAoAAAAAAAAAAAAA\n\356", 20), "the line of eight zero bytes");
     check(bg_send_frame(body, 88, 0, out, sizeof out, sent) == 0 && sent[0] == 127 && sent[1] == 1,
           "88 bytes are one line");
-    check(bg_send_frame(body, 89, 0, out, BG_LINE, sent) == 0 && sent[0] == 127 && sent[1] == 2,
-          "89 bytes are two lines");
-    check(bg_send_frame(body, 89, 1, out, BG_LINE, sent) == 0 && sent[0] == 7 && sent[1] == 2,
-          "the second line of 89");
+    check(bg_send_frame(body, 89, 0, out, sizeof out, sent) == 0 && sent[0] == 127 && sent[1] == 1,
+          "89 bytes are one line");
+    check(bg_send_frame(body, 90, 0, out, BG_LINE, sent) == 0 && sent[0] == 127 && sent[1] == 2,
+          "90 bytes are two lines");
+    check(bg_send_frame(body, 90, 1, out, BG_LINE, sent) == 0 && sent[0] == 7 && sent[1] == 2,
+          "the second line of 90");
     check(out[BG_LINE] == 0xEE, "the byte after the output stays");
 }
 

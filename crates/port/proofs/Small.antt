@@ -4,7 +4,6 @@ use mathlib.Core.Path.{_≡_}
 use mathlib.Core.Bool.{not}
 use mathlib.Core.List.{List}
 use Prim.Native.Nat.{ℕ, _≤_, _<_}
-use native.Mathlib.Decide.{decLe}
 use native.Mathlib.Omega.{arith}
 use lib.Dec.{ltb, leb, eqb}
 use lib.ListN.{length, length-append}
@@ -14,7 +13,7 @@ use Rattle.laws.proofs.Choice.{pick-case, both-true}
 use Rattle.frame.specs.Line.{initial, partial, frame}
 use Rattle.sender.specs.Sender as sending
 use Rattle.sender.specs.Sender.{frameCount, pieceOf, frameOf, sendable, sendFrame}
-use Rattle.sender.proofs.Count.{count-one, count-two, count-many}
+use Rattle.sender.proofs.Count.{count-most}
 use Rattle.sender.proofs.Laws.{piece-length, text-room}
 use Rattle.host.specs.Write.{Outcome, packet, unsendable, put, misSized, writeEcho, writeReset, writeErase, writeFirst, writeUpload}
 
@@ -70,16 +69,6 @@ upload-small sequence x off size tag out =
 abbrev pub SentSmall : sending.Outcome → Type 0
 SentSmall o = (n count : ℕ) → o .says ≡ sending.frameIs n count → (n ≤ 127) × (count ≤ 705)
 
--- a body that can be sent takes at most 705 frames
-count-small : (b : ℕ) → b ≤ 65533 → frameCount b ≤ 705
-count-small b h = elim (decLe sending.severalFrom b) [
-  | no n ↦ rw (count-one b (omega arith)) (omega arith)
-  | yes l ↦ elim (decLe b 182) [
-    | yes r ↦ rw (count-two b l r) (omega arith)
-    | no n ↦ rw (count-many b (omega arith)) (omega arith)
-  ]
-]
-
 -- a marker is of two bytes
 marker-two : (k : ℕ) → length (pick (eqb k 0) initial partial) ≤ 2
 marker-two k = pick-case (λ (m : List ℕ). length m ≤ 2) (eqb k 0) initial partial (λ e. omega arith) (λ e. omega arith)
@@ -98,7 +87,7 @@ sent-small s k out =
     (λ f.
     let a = both-true (leb 127 (length out)) _ (not-false (sendable (length s) (length out)) e) in
     let b = both-true (leb 8 (length s)) _ (a .1) in
-    same (frame-small s k (ltb-true k (frameCount (length s)) (not-false _ f))) (count-small (length s) (leb-true (length s) 65533 (b .1)))))
+    same (frame-small s k (ltb-true k (frameCount (length s)) (not-false _ f))) (count-most (length s) (leb-true (length s) 65533 (b .1)))))
   where
     refusal : (r n count : ℕ) → sending.refused r ≡ sending.frameIs n count → (n ≤ 127) × (count ≤ 705)
     refusal r n count e = let z : _≡_ {A = ℕ} 0 1 = cc in omega arith

@@ -16,7 +16,7 @@ use Rattle.frame.specs.Line.{rawMost}
 use Rattle.sender.specs.Sender.{severalFrom, bodyMost, frameCount, rawOf, startOf, stopOf, pieceOf, laterCuts, cuts}
 use Rattle.roundtrip.specs.RoundTrip.{pieces, CutsAgree}
 use Rattle.roundtrip.specs.Inner.{afterTotal}
-use Rattle.sender.proofs.Count.{count-one, count-several, count-later, count-last, start-is, start-later, stop-next, stop-last}
+use Rattle.sender.proofs.Count.{count-one, count-several, count-next, count-last, start-is, start-later, stop-next, stop-last}
 use Rattle.roundtrip.proofs.Pieces.{after-length, piece-first, piece-later}
 
 -- a part that ends within the first of two lists, or where that ends, is a part of the first
@@ -43,7 +43,7 @@ left-next s k h =
 
 -- more than 91 are left before a frame between the first and the last
 left-many : (s : List ℕ) (k : ℕ) → 0 < k → k + 1 < frameCount (length s) → bodyMost < length (drop (rawMost * k - 2) s)
-left-many s k h l = rw length-drop (omega (arith, count-later (length s) k h l))
+left-many s k h l = rw length-drop (omega (arith, count-next (length s) k l))
 
 -- at most 91 are left before the last
 left-few : (s : List ℕ) (k : ℕ) → 0 < k → k + 1 ≡ frameCount (length s) → length (drop (rawMost * k - 2) s) ≤ bodyMost
@@ -58,7 +58,7 @@ cut-first s h =
 -- a frame between the first and the last carries 93 of the bytes left, or all if fewer
 cut-next : (s : List ℕ) (k : ℕ) → 0 < k → k + 1 < frameCount (length s) → pieceOf s k ≡ take rawMost (drop (rawMost * k - 2) s)
 cut-next s k h l =
-    let long = count-later (length s) k h l in
+    let long = count-next (length s) k l in
     let start : startOf (length s) k ≡ rawMost * k = omega (arith, start-is (length s) k) in
     let left = length-drop (rawMost * k - 2) s in
     let n : stopOf (length s) k - rawMost * k ≡ min rawMost (length (drop (rawMost * k - 2) s)) =

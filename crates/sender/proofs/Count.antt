@@ -8,7 +8,7 @@ use native.Mathlib.Decide.{decLe}
 use borrow.Author.Tests.{lt-ltb, le-ltb, le-leb, lt-leb, eq-eqb, ne-eqb}
 use Rattle.laws.proofs.Choice.{pick-yes, pick-no}
 use Rattle.frame.specs.Line.{rawMost}
-use Rattle.sender.specs.Sender.{severalFrom, twoFrames, frameCount, startOf, stopOf}
+use Rattle.sender.specs.Sender.{severalFrom, twoFrames, frameCount, startOf, stopOf, FewestFrames}
 
 -- a short body takes one frame
 pub count-one : (b : ℕ) → b < severalFrom → frameCount b ≡ 1
@@ -25,37 +25,39 @@ pub count-many : (b : ℕ) → twoFrames < b → frameCount b ≡ 2 + (b - twoFr
 unfolding frameCount
 count-many b h = rw (le-ltb b severalFrom (omega arith), pick-no, lt-leb b twoFrames h, pick-no)
 
--- a fact of the count is shown in those three cases
-by-count : (P : ℕ → Type 0) (b : ℕ) → (b < severalFrom → P 1) → (severalFrom ≤ b → b ≤ twoFrames → P 2)
-    → (twoFrames < b → P (2 + (b - twoFrames + (rawMost - 1)) / rawMost))
-    → P (frameCount b)
-by-count P b f g h = elim (decLe severalFrom b) [
-  | no n ↦ rw (count-one b (omega arith)) (f (omega arith))
+-- so it is the packet's raw bytes in full frames, the last begun or full
+count-is : (b : ℕ) → frameCount b ≡ (b + 4 + (rawMost - 1)) / rawMost
+count-is b = elim (decLe severalFrom b) [
+  | no n ↦ rw (count-one b (omega arith)) (omega arith)
   | yes l ↦ elim (decLe b twoFrames) [
-    | yes r ↦ rw (count-two b l r) (g l r)
-    | no n ↦ rw (count-many b (omega arith)) (h (omega arith))
+    | yes r ↦ rw (count-two b l r) (omega arith)
+    | no n ↦ rw (count-many b (omega arith)) (omega arith)
   ]
 ]
 
+-- no fewer frames carry them
+pub fewest-frames : FewestFrames
+fewest-frames b = (omega (arith, count-is b), λ n h. omega (arith, count-is b))
+
 -- there is a frame
 pub count-some : (b : ℕ) → 0 < frameCount b
-count-some b = by-count (λ (n : ℕ). 0 < n) b (λ h. omega arith) (λ h l. omega arith) (λ h. omega arith)
+count-some b = omega (arith, count-is b)
 
 -- a body that is not short takes several
 pub count-several : (b : ℕ) → severalFrom ≤ b → 1 < frameCount b
-count-several b l = by-count (λ (n : ℕ). 1 < n) b (λ h. omega arith) (λ h l. omega arith) (λ h. omega arith)
+count-several b l = omega (arith, count-is b)
 
--- a frame that another follows: the body has what would fit it beside total and CRC, besides a full frame for each before, or more
-count-next : (b k : ℕ) → k + 1 < frameCount b → rawMost * k + (rawMost - 4) ≤ b
-count-next b k = by-count (λ (n : ℕ). k + 1 < n → rawMost * k + (rawMost - 4) ≤ b) b (λ h e. omega arith) (λ h l e. omega arith) (λ h e. omega arith)
+-- a body that can be sent takes at most 705
+pub count-most : (b : ℕ) → b ≤ 65533 → frameCount b ≤ 705
+count-most b l = omega (arith, count-is b)
 
--- a frame that another follows, and that is not the first: the body has more than that
-pub count-later : (b k : ℕ) → 0 < k → k + 1 < frameCount b → rawMost * k + (rawMost - 4) < b
-count-later b k p = by-count (λ (n : ℕ). k + 1 < n → rawMost * k + (rawMost - 4) < b) b (λ h e. omega arith) (λ h l e. omega arith) (λ h e. omega arith)
+-- a frame that another follows: the body has more than would fit it beside total and CRC, besides a full frame for each before
+pub count-next : (b k : ℕ) → k + 1 < frameCount b → rawMost * k + (rawMost - 4) < b
+count-next b k h = omega (arith, count-is b)
 
 -- the last frame: the body has at most that
 pub count-last : (b k : ℕ) → k + 1 ≡ frameCount b → b ≤ rawMost * k + (rawMost - 4)
-count-last b k = by-count (λ (n : ℕ). k + 1 ≡ n → b ≤ rawMost * k + (rawMost - 4)) b (λ h e. omega arith) (λ h l e. omega arith) (λ h e. omega arith)
+count-last b k e = omega (arith, count-is b)
 
 -- where a frame begins
 pub start-is : (b k : ℕ) → startOf b k ≡ min (rawMost * k) (b + 2)

@@ -1,6 +1,6 @@
 -- The frame sender: which lines a body becomes, what it answers to a body and a frame number, and what becomes of the lent buffer.
 -- Assumes nothing.
-use Prim.Native.Nat.{ℕ, zero, suc, _+_, _*_, _-_, _/_, min}
+use Prim.Native.Nat.{ℕ, zero, suc, _+_, _*_, _-_, _/_, _≤_, min}
 use mathlib.Core.Bool.{Bool, not}
 use mathlib.Core.List.{List, [], _∷_, _++_}
 use lib.Dec.{ltb, leb, eqb}
@@ -15,9 +15,9 @@ use Rattle.sender.specs.declared.Sent.the-variants.{Frame, Refused}
 
 -- a body of this many bytes or more takes more than one frame
 abbrev pub severalFrom : ℕ
-severalFrom = 89
+severalFrom = 90
 
--- "A body shorter than 89 goes in one frame with total and CRC."
+-- "A body of 89 bytes or fewer now goes in one frame.": with total and CRC
 abbrev pub oneFrame : ℕ → Bool
 oneFrame b = ltb b severalFrom
 
@@ -29,9 +29,14 @@ bodyMost = rawMost - 2
 abbrev pub twoFrames : ℕ
 twoFrames = 2 * bodyMost
 
--- "The frame count for a body of b bytes, b at least 89, is 2 plus (b - 182) / 93 rounded up, or 2 where b is at most 182."
+-- "The frame count for a body of b bytes .. is 2 plus (b - 182) / 93 rounded up, or 2 where b is at most 182." "The count formula holds
+-- from 90 on"; one frame below
 unfoldable pub frameCount : ℕ → ℕ
 frameCount b = pick (oneFrame b) 1 (pick (leb b twoFrames) 2 (2 + (b - twoFrames + (rawMost - 1)) / rawMost))
+
+-- "2 + 89 + 2 = 93 fits": a body's frames carry its bytes, total and CRC, and no fewer frames of at most 93 raw bytes could
+abbrev pub FewestFrames : Type 0
+FewestFrames = (b : ℕ) → (b + 4 ≤ rawMost * frameCount b) × ((n : ℕ) → b + 4 ≤ rawMost * n → frameCount b ≤ n)
 
 -- "The raw bytes of a packet are: total (2 bytes, big-endian, body length plus 2), body, CRC (2 bytes, big-endian)."
 unfoldable pub rawOf : List ℕ → List ℕ
@@ -63,8 +68,8 @@ unfoldable pub laterCuts : ℕ → List ℕ → List ℕ → List (List ℕ)
 laterCuts zero left crc = (left ++ crc) ∷ []
 laterCuts (suc n) left crc = pick (ltb bodyMost (length left)) (take rawMost left ∷ laterCuts n (drop rawMost left) crc) ((left ++ crc) ∷ [])
 
--- the raw bytes of each frame, as the paper cuts them: "A body shorter than 89 goes in one frame with total and CRC. Otherwise frame 0
--- carries total and the first 91 body bytes, or all if fewer; then .."
+-- the raw bytes of each frame, as the paper cuts them: "A body of 89 bytes or fewer now goes in one frame." "Otherwise frame 0 carries
+-- total and the first 91 body bytes, or all if fewer; then .."
 unfoldable pub cuts : List ℕ → List (List ℕ)
 cuts s =
     pick (oneFrame (length s))

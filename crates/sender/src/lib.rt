@@ -18,7 +18,7 @@ pub enum Sent {
 }
 
 // A body of this many bytes or more takes more than one frame.
-const SEVERAL_FROM: usize = 89;
+const SEVERAL_FROM: usize = 90;
 
 // The longest body in two frames, one with total and one with the CRC.
 const TWO_FRAMES: usize = 2 * (frame::RAW_MOST - 2);

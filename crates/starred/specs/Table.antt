@@ -82,7 +82,7 @@ starred =
     eightZeros
     ∷ record { given = linesOf 8; wanted = 1 ∷ 19 ∷ 19 ∷ [] }
     ∷ record { given = linesOf 88; wanted = 1 ∷ 127 ∷ 127 ∷ [] }
-    ∷ record { given = linesOf 89; wanted = 2 ∷ 127 ∷ 7 ∷ [] }
+    ∷ record { given = linesOf 89; wanted = 1 ∷ 127 ∷ 127 ∷ [] }
     ∷ record { given = frameCount 182 ∷ []; wanted = 2 ∷ [] }
     ∷ record { given = frameCount 183 ∷ []; wanted = 3 ∷ [] }
     ∷ record { given = frameCount 65533 ∷ []; wanted = 705 ∷ [] }

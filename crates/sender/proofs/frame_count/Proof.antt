@@ -8,7 +8,7 @@ use Rattle.sender.proofs.frame_count.Statement.{statement}
 use Rattle.sender.proofs.frame_count.Tie as tie
 
 returns : tie.Need-returns
-returns c = (sym (count-one (c .before .args .b) (c .if1 .taken)), omega arith)
+returns c = (sym (count-one (c .before .args .b) (omega arith)), omega arith)
 
 returns-2 : tie.Need-returns-2
 returns-2 c = (sym (count-two (c .before .before .args .b) (omega arith) (omega arith)), omega arith)
