@@ -1,5 +1,6 @@
 //! The classes of calls: a run has to meet each of them often.
 
+mod frames;
 mod reads;
 mod regions;
 mod steps;
@@ -45,7 +46,7 @@ pub fn all() -> Vec<Name> {
     let handled = regions::HANDLED.names().chain(regions::FIRST.names());
     let images = reads::VALID.names().chain(reads::SPOILT.names());
     let reads = reads::READS.names().chain(images).chain(reads::REPLIES.names());
-    let lines = steps::STEPS.names().chain(sums::SUMS.names());
+    let lines = steps::STEPS.names().chain(sums::SUMS.names()).chain(frames::FRAMES.names());
     let mut all: Vec<(usize, Name)> = lines.chain(configured).chain(handled).chain(reads).collect();
     all.sort();
     all.into_iter().map(|(_, name)| name).collect()
@@ -56,7 +57,10 @@ pub fn add(call: &Call, outcome: &Outcome, list: &mut Vec<usize>) {
     match call.kind {
         Kind::Collect => steps::add(call, outcome, list),
         Kind::TakeLine => sums::add_read(call, outcome, list),
-        Kind::SendFrame => sums::add_sent(call, outcome, list),
+        Kind::SendFrame => {
+            sums::add_sent(call, outcome, list);
+            frames::add(call, outcome, list);
+        }
         Kind::Configure => regions::add(call, outcome, list),
         Kind::Handle => {
             regions::add(call, outcome, list);

@@ -44,12 +44,13 @@ once in five thousand of N, or less than 1000 times where N is more than five mi
 type Generator = fn(&mut Harness, &mut Rng);
 
 /// The generators of random inputs, each with how often it is used.
-const GENERATORS: [(usize, Generator); 14] = [
+const GENERATORS: [(usize, Generator); 15] = [
     (150, lumps::single),
     (1, lumps::stream),
     (200, lines::single),
     (6, lines::history),
     (80, sends::single),
+    (34, sends::edge),
     (200, requests::single),
     (9, requests::history),
     (1, requests::configure),

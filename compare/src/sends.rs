@@ -6,6 +6,21 @@ use crate::lines::body_length;
 use crate::rng::Rng;
 use second::sender;
 
+/// The lengths at both sides of each step of the frame count, and about the frames that carry the CRC alone.
+const EDGES: [usize; 11] = [88, 89, 90, 91, 92, 93, 182, 183, 184, 275, 276];
+
+/// Every frame of a body at an edge of the frame count, and the frame number behind the last.
+pub fn edge(harness: &mut Harness, rng: &mut Rng) {
+    harness.kind("sender: every frame at an edge of the count");
+    // The edge of a single frame more often, since it has the fewest frames.
+    let length = if rng.once_in(3) { rng.range(88, 90) } else { rng.pick(&EDGES) };
+    let body = rng.bytes(length);
+    for k in 0..=sender::cut(length).len() as u64 {
+        let out = rng.bytes(127);
+        harness.check(send_frame(body.clone(), k, out, [rng.word(), rng.word()]));
+    }
+}
+
 /// One frame of a body of any length, with any frame number and output.
 pub fn single(harness: &mut Harness, rng: &mut Rng) {
     harness.kind("sender: a frame of a body");

@@ -65,6 +65,13 @@ size_t bytes_of(const char *text, uint8_t bytes[ROOM])
     return len;
 }
 
+void by_rule(uint8_t *bytes, size_t len)
+{
+    for (size_t i = 0; i < len; i++) {
+        bytes[i] = (uint8_t)(i * 7 + 3);
+    }
+}
+
 int begins(char *line, const char *word, char **rest)
 {
     size_t len = strlen(word);

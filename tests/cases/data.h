@@ -23,6 +23,9 @@ uint64_t last_number(char *text, uint64_t most);
 /* Reads bytes in hex, or - for none; gives how many they are. */
 size_t bytes_of(const char *text, uint8_t bytes[ROOM]);
 
+/* Fills bytes by the rule that data files name: byte i is i * 7 + 3, of which the lowest eight bits. */
+void by_rule(uint8_t *bytes, size_t len);
+
 /* Says whether a line begins with a word, and where the words behind it are. */
 int begins(char *line, const char *word, char **rest);
 

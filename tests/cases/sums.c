@@ -89,9 +89,7 @@ static void read_line(char *line)
     snprintf(name, sizeof name, "%s", line);
     if (begins(line, "crc-rule", &rest)) {
         len = number(&rest, BG_PACKET);
-        for (size_t i = 0; i < len; i++) {
-            bytes[i] = (uint8_t)(i * 7 + 3);
-        }
+        by_rule(bytes, len);
     } else if (begins(line, "crc", &rest)) {
         len = bytes_of(word(&rest), bytes);
     } else {
