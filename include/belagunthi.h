@@ -44,8 +44,8 @@ extern "C" {
 #endif
 
 /* The version: major * 10000 + minor * 100 + patch. The major number changes with a promise that a caller may rely on, the minor with a new name. */
-#define BG_VERSION 20001
-#define BG_VERSION_TEXT "2.0.1"
+#define BG_VERSION 30000
+#define BG_VERSION_TEXT "3.0.0"
 
 /* The most stack that a call takes, in bytes. */
 #define BG_STACK 1024
@@ -159,6 +159,10 @@ uint32_t bg_take_line(uint32_t reader[BG_READER], const uint8_t *line, size_t li
  * Writes frame number k (from 0) of a body, as a line, to the start of out; the bytes after it stay.
  * Returns 0 with sent = { the line's length, the frame count of this body }. Refuses 12 for an output under 127 bytes or a body outside 8 to
  * 65,533 bytes, then 13 for k not below the count; out and sent stay.
+ * A body of 89 bytes or fewer goes in one frame, with total before it and the CRC behind. Of a longer one frame 0 carries total and the first 91 bytes,
+ * or all if fewer; then, while more than 91 are left, a partial frame carries 93 of them, or all if fewer; the last frame carries the rest and the CRC.
+ * The count is 1 up to 89 bytes, 2 up to 182, and one more for each 93 bytes begun above that. No cut into frames of 93 raw bytes takes fewer; but the
+ * last frame carries the CRC alone where the body has 90 or 91 bytes, or a multiple of 93 more.
  */
 uint32_t bg_send_frame(const uint8_t *body, size_t body_len, size_t k, uint8_t *out, size_t out_len, uint32_t sent[2]);
 
