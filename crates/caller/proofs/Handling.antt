@@ -20,7 +20,8 @@ use Rattle.controller.specs.Calls as calling
 use Rattle.controller.specs.Calls.{actsOf}
 use Rattle.controller.proofs.Calls.{packet-demand, packet-unbroken, packet-same-memory}
 use Rattle.records.specs.Records.{layoutOf, sessionOf, sessionNumbers}
-use Rattle.port.specs.Calls.{handledBy, handledC, ConfiguredC, configuredBy, configuredC}
+use Rattle.records.specs.Results.{handledBy}
+use Rattle.port.specs.Calls.{handledC, ConfiguredC, configuredBy, configuredC}
 use Rattle.caller.specs.Handling.{
   Kept,
   stateIn,

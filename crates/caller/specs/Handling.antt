@@ -11,7 +11,8 @@ use Rattle.slot.specs.Act.{Act}
 use Rattle.slot.specs.History.{HeldIn, CutFrom, SentWhole}
 use Rattle.controller.specs.Calls.{Call, actsOf}
 use Rattle.records.specs.Records.{layoutOf, sessionOf}
-use Rattle.port.specs.Calls.{HandledC, handledC, configuredC}
+use Rattle.records.specs.Results.{HandledC}
+use Rattle.port.specs.Calls.{handledC, configuredC}
 
 -- the arrays that the controller keeps from call to call
 pub record Kept : Type 0 where

@@ -1,7 +1,7 @@
 -- What the reader says and leaves fits the arrays of 32-bit numbers.
 -- Assumes nothing.
 use mathlib.Core.Path.{_≡_, refl, ap, _∙_, sym, subst}
-use mathlib.Core.Bool.{Bool, true, false, not, true≢false}
+use mathlib.Core.Bool.{not, true≢false}
 use mathlib.Core.List.{List}
 use mathlib.Core.Option.{Option, none, some}
 use Prim.Native.Nat.{ℕ, _+_, _-_, _≤_}
@@ -9,14 +9,10 @@ use native.Mathlib.Omega.{arith}
 use lib.Dec.{ltb, leb, eqb}
 use lib.ListN.{length, drop, take}
 use borrow.Author.Tests.{ltb-true, leb-true}
-use Rattle.laws.specs.Choice.{pick, both}
+use Rattle.laws.specs.Choice.{both}
 use Rattle.laws.specs.Bytes.{Bytes, ofBe16}
-use Rattle.laws.proofs.Choice.{pick-case, pick-yes, pick-no, both-true}
-use Rattle.refusal.specs.declared.Refusal.{Refusal}
-use Rattle.refusal.specs.Number.{numberOf}
+use Rattle.laws.proofs.Choice.{pick-case, both-true}
 use Rattle.reader.specs.declared.Taken.{Taken}
-use Rattle.reader.specs.declared.Answer.{Answer}
-use Rattle.reader.specs.declared.Answer.the-variants.{More, Packet, Refused}
 use Rattle.crc.specs.Crc.{crcOf}
 use Rattle.base64.specs.Base64.{decode}
 use Rattle.base64.proofs.Laws.{decode-bytes}
@@ -27,8 +23,6 @@ use Rattle.reader.specs.Reader.{
   Outcome,
   outcome,
   said,
-  body,
-  refused,
   keeping,
   dropping,
   possible,
@@ -43,10 +37,10 @@ use Rattle.reader.specs.Reader.{
   resumed,
   takeLine,
 }
-use Rattle.records.specs.Records.{readerOf, readerNumbers}
-use Rattle.records.specs.Results.{keepsRecord}
-use Rattle.port.specs.Calls.{TookLine, tookBy, tookLine}
-use Rattle.port.specs.Inner.{SmallBy}
+use Rattle.records.specs.Records.{readerOf}
+use Rattle.records.specs.Results.{tookBy}
+use Rattle.records.specs.Inner.{SmallBy}
+use Rattle.port.specs.Calls.{tookLine}
 
 -- an outcome can be handed over
 abbrev Small : Outcome → Type 0
@@ -120,32 +114,3 @@ took-is r line p b t p′ before e f =
 -- it can be handed over
 pub taken-small : (line p : List ℕ) (t : Taken) (p′ : List ℕ) (before : Reader) → outcome t p′ ≡ takeLine before line p → SmallBy (said (t .answer)) (t .reader)
 taken-small line p t p′ before f = subst Small (sym f) (small-line before line p)
-
--- each answer, handed over
-pub took-more : (r p : List ℕ) (b : ℕ) (t : Taken) (rec : List ℕ) → t .answer ≡ More → rec ≡ readerNumbers (t .reader)
-    → _≡_ {A = TookLine} (record { result = 0; record-after = rec; packet = p; body = 0 }) (tookBy r b (t .reader) p (said (t .answer)))
-unfolding tookBy
-took-more r p b t rec e f =
-    (λ i. record { result = 0; record-after = f i; packet = p; body = 0 }) ∙ ap (λ (a : Answer). tookBy r b (t .reader) p (said a)) (sym e)
-
-pub took-body : (r p : List ℕ) (b : ℕ) (t : Taken) (rec : List ℕ) (n : ℕ) → t .answer ≡ Packet n → rec ≡ readerNumbers (t .reader)
-    → _≡_ {A = TookLine} (record { result = 0; record-after = rec; packet = p; body = n }) (tookBy r b (t .reader) p (said (t .answer)))
-unfolding tookBy
-took-body r p b t rec n e f =
-    (λ i. record { result = 0; record-after = f i; packet = p; body = n }) ∙ ap (λ (a : Answer). tookBy r b (t .reader) p (said a)) (sym e)
-
-pub took-refused : (r p : List ℕ) (b : ℕ) (t : Taken) (rec : List ℕ) (n : ℕ) (why : Refusal) → t .answer ≡ Refused why → n ≡ numberOf why → rec
-    ≡ pick (keepsRecord n) r (readerNumbers (t .reader))
-    → _≡_ {A = TookLine} (record { result = n; record-after = rec; packet = p; body = b }) (tookBy r b (t .reader) p (said (t .answer)))
-unfolding tookBy
-took-refused r p b t rec n why e f g =
-    (λ i. record { result = n; record-after = g i; packet = p; body = b })
-    ∙ ap (λ (k : ℕ). tookBy r b (t .reader) p (refused k)) f
-    ∙ ap (λ (a : Answer). tookBy r b (t .reader) p (said a)) (sym e)
-
--- the kept record, and the one that is stored
-pub record-kept : (n : ℕ) (r s : List ℕ) → keepsRecord n ≡ true → r ≡ pick (keepsRecord n) r s
-record-kept n r s e = sym (ap (λ (t : Bool). pick t r s) e ∙ pick-yes r s)
-
-pub record-stored : (n : ℕ) (r s rec : List ℕ) → keepsRecord n ≡ false → rec ≡ s → rec ≡ pick (keepsRecord n) r s
-record-stored n r s rec e f = f ∙ sym (ap (λ (t : Bool). pick t r s) e ∙ pick-no r s)

@@ -2,15 +2,13 @@
 -- Assumes nothing.
 use mathlib.Core.Path.{_≡_, refl, sym, ap, ap₂, subst, _∙_}
 use mathlib.Core.Bool.{Bool, true, false, not}
-use mathlib.Core.List.{List, [], _∷_}
+use mathlib.Core.List.{List}
 use Prim.Native.Nat.{ℕ, _+_, _≤_, _<_}
 use native.Mathlib.Omega.{arith}
 use lib.Dec.{ltb, lit<}
 use lib.ListN.{length}
 use borrow.Author.Tests.{not-false}
 use Rattle.laws.proofs.Choice.{pick-case, both-true}
-use Rattle.refusal.specs.declared.Refusal.{Refusal}
-use Rattle.refusal.specs.Number.{numberOf}
 use Rattle.reason.specs.Rc.{rcOf}
 use Rattle.cbor.specs.Write.{headOf}
 use Rattle.cbor.proofs.Laws.{head-long, len-most}
@@ -32,16 +30,10 @@ use Rattle.listing.specs.Listing.{listMap}
 use Rattle.listing.proofs.Laws.{list-length}
 use Rattle.controller.specs.declared.Response.{Response}
 use Rattle.controller.specs.declared.Handled.{Handled}
-use Rattle.controller.specs.declared.Answer.{Answer}
-use Rattle.controller.specs.declared.Answer.the-variants.{Replied, ResetAsked, Refused}
 use Rattle.controller.specs.Doing.{actFor, responseFor, responseMap, asksReset}
 use Rattle.controller.specs.Inner.{Answerable}
 use Rattle.controller.specs.Handle.{
-  Said,
   said,
-  replied,
-  resetAsked,
-  refused,
   Outcome,
   outcome,
   Taking,
@@ -55,9 +47,10 @@ use Rattle.controller.specs.Handle.{
 }
 use Rattle.controller.proofs.Laws.{taking-impossible, handle-refused, response-answerable}
 use Rattle.controller.proofs.Calls.{call-fit}
-use Rattle.records.specs.Records.{layoutOf, sessionOf, sessionNumbers}
-use Rattle.port.specs.Calls.{HandledC, handledBy, handledC}
-use Rattle.records.specs.Inner.{Held32}
+use Rattle.records.specs.Records.{layoutOf, sessionOf}
+use Rattle.records.specs.Results.{handledBy}
+use Rattle.records.specs.Inner.{Held32, HandledSmall}
+use Rattle.port.specs.Calls.{handledC}
 
 -- an act that is fit leaves small numbers small
 fit-small : (slot : Slot) (st : State) (a : Act) → slot .size ≤ 1048576 → Held32 (st .session) → Fit slot (st .session) a → Held32 (done slot a st .session)
@@ -86,12 +79,6 @@ any-small layout st p b k = by-test (possible layout st) refl
     by-test true e = call-small layout st p b e k
     by-test false e = subst (λ (o : Outcome). Held32 (o .state .session)) (sym (handle-refused layout st p b 1 (taking-impossible layout st p b e))) k
 
--- a reply's length is small
-abbrev pub SaidSmall : Said → Type 0
-SaidSmall (replied n) = n < 4294967296
-SaidSmall (resetAsked n) = n < 4294967296
-SaidSmall (refused n) = Unit {0}
-
 -- a head has nine bytes at most
 head-nine : (m n : ℕ) → length (headOf m n) ≤ 9
 head-nine m n = subst (λ (k : ℕ). k ≤ 9) (sym (head-long m n)) (len-most n)
@@ -113,14 +100,14 @@ bytes-small layout h m p x room s =
     meant Response.Images s = omega (arith, packet-length h (listMap m layout), list-length m layout)
 
 -- what any call says is small
-said-small : (layout : Layout) (st : State) (p b : List ℕ) → SaidSmall (handle layout st p b .says)
+said-small : (layout : Layout) (st : State) (p b : List ℕ) → HandledSmall (handle layout st p b .says)
 unfolding handled taking saidBy bytesBy actBy asked
 said-small layout st p b =
-    let small : Taking → Type 0 = λ t. SaidSmall (handled layout st p b t .says) in
+    let small : Taking → Type 0 = λ t. HandledSmall (handled layout st p b t .says) in
     pick-case small (not (possible layout st)) _ _ (λ e. tt)
     (λ e. pick-case small (ltb (length b) 32) _ _ (λ f. tt) (λ f. read (not-false (possible layout st) e) (readRequest p) refl))
   where
-    read : possible layout st ≡ true → (t : Reading) → readRequest p ≡ t → SaidSmall (handled layout st p b (asked t) .says)
+    read : possible layout st ≡ true → (t : Reading) → readRequest p ≡ t → HandledSmall (handled layout st p b (asked t) .says)
     read h Reading.NotARequest e = tt
     read h (Reading.Is r) e =
         let slot = layout .slot1 in
@@ -128,7 +115,7 @@ said-small layout st p b =
         let oks = both-true (layoutOk layout (length (st .memory))) (sessionOk slot (st .session)) h in
         let can = response-answerable slot st p r (layout-bounds layout (length (st .memory)) (oks .0) .upload) (oks .1) e in
         let n = bytes-small layout (headerIn p) (after .memory) p (responseFor slot st after p r) (length b) can in
-        pick-case SaidSmall (asksReset r) _ _ (λ f. n) (λ f. n)
+        pick-case HandledSmall (asksReset r) _ _ (λ f. n) (λ f. n)
 
 -- what the call gave and left, as the C call's own outcome
 pub handled-is : (l m s tag p b a : List ℕ) (layout : Layout) (h : Handled) (m′ tag′ b′ : List ℕ) (before : Session) → layout ≡ layoutOf l
@@ -140,37 +127,11 @@ handled-is l m s tag p b a layout h m′ tag′ b′ before d e f =
     ap (λ (o : Outcome). handledBy s a o (o .says))
     (sym (f ∙ ap₂ (λ (x : Layout) (k : Session). handle x (stateOf m tag k) p b) d e))
 
--- each answer, handed over
-module _ (s a : List ℕ) (h : Handled) (m tag b : List ℕ) where
-  pub handled-replied : (n : ℕ) (s′ : List ℕ) → h .answer ≡ Replied n → s′ ≡ sessionNumbers (h .session)
-      → _≡_ {A = HandledC} (record { result = 0; memory = m; session = s′; tag = tag; reply = b; answer = n ∷ 0 ∷ [] })
-      (handledBy s a (outcome h m tag b) (said (h .answer)))
-  unfolding handledBy
-  handled-replied n s′ e f =
-      (λ i. record { result = 0; memory = m; session = f i; tag = tag; reply = b; answer = n ∷ 0 ∷ [] })
-      ∙ ap (λ (k : Answer). handledBy s a (outcome h m tag b) (said k)) (sym e)
-
-  pub handled-reset : (n : ℕ) (s′ : List ℕ) → h .answer ≡ ResetAsked n → s′ ≡ sessionNumbers (h .session)
-      → _≡_ {A = HandledC} (record { result = 0; memory = m; session = s′; tag = tag; reply = b; answer = n ∷ 1 ∷ [] })
-      (handledBy s a (outcome h m tag b) (said (h .answer)))
-  unfolding handledBy
-  handled-reset n s′ e f =
-      (λ i. record { result = 0; memory = m; session = f i; tag = tag; reply = b; answer = n ∷ 1 ∷ [] })
-      ∙ ap (λ (k : Answer). handledBy s a (outcome h m tag b) (said k)) (sym e)
-
-  pub handled-refused : (n : ℕ) (why : Refusal) → h .answer ≡ Refused why → n ≡ numberOf why
-      → _≡_ {A = HandledC} (record { result = n; memory = m; session = s; tag = tag; reply = b; answer = a })
-      (handledBy s a (outcome h m tag b) (said (h .answer)))
-  unfolding handledBy
-  handled-refused n why e f =
-      (λ i. record { result = f i; memory = m; session = s; tag = tag; reply = b; answer = a })
-      ∙ ap (λ (k : Answer). handledBy s a (outcome h m tag b) (said k)) (sym e)
-
 -- what a call gave is small
 pub given-small : (layout : Layout) (st : State) (p b : List ℕ) (h : Handled) (m′ tag′ b′ : List ℕ) → outcome h m′ tag′ b′ ≡ handle layout st p b
     → Held32 (st .session)
-    → Held32 (h .session) × SaidSmall (said (h .answer))
+    → Held32 (h .session) × HandledSmall (said (h .answer))
 given-small layout st p b h m′ tag′ b′ e k = (
   subst (λ (o : Outcome). Held32 (o .state .session)) (sym e) (any-small layout st p b k),
-  subst (λ (o : Outcome). SaidSmall (o .says)) (sym e) (said-small layout st p b),
+  subst (λ (o : Outcome). HandledSmall (o .says)) (sym e) (said-small layout st p b),
 )

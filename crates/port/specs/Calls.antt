@@ -4,15 +4,14 @@ use Prim.Native.Nat.{ℕ}
 use mathlib.Core.List.{List, [], _∷_}
 use Rattle.laws.specs.Choice.{pick}
 use Rattle.collector.specs.Collector as collecting
-use Rattle.reader.specs.declared.Reader.{Reader}
 use Rattle.reader.specs.Reader as reading
 use Rattle.sender.specs.Sender as sending
 use Rattle.session.specs.Session as slots
 use Rattle.controller.specs.Handle as handling
 use Rattle.host.specs.Write as writing
 use Rattle.replies.specs.Read as hearing
-use Rattle.records.specs.Records.{layoutOf, collectorOf, collectorNumbers, readerOf, readerNumbers, sessionOf, sessionNumbers, replyNumbers}
-use Rattle.records.specs.Results.{stepResult, stepLength, wentOn, keepsRecord, WroteC, wroteBy}
+use Rattle.records.specs.Records.{layoutOf, collectorOf, collectorNumbers, readerOf, sessionOf, sessionNumbers, replyNumbers}
+use Rattle.records.specs.Results.{stepResult, stepLength, wentOn, TookLine, tookBy, HandledC, handledBy, WroteC, wroteBy}
 
 -- bg_collect: the result, the record's numbers and bytes, the line array and the two numbers
 pub record CollectedC : Type 0 where
@@ -38,20 +37,7 @@ collectedBy r held got o =
 unfoldable pub collectedC : List ℕ → List ℕ → List ℕ → ℕ → List ℕ → List ℕ → CollectedC
 collectedC r held lump at line got = collectedBy r held got (collecting.collect (collectorOf r held) lump at line)
 
--- bg_take_line: the result, the record, the packet buffer and *body
-pub record TookLine : Type 0 where
-  pub result : ℕ
-  pub record-after : List ℕ
-  pub packet : List ℕ
-  pub body : ℕ
-
--- by what the reader said
-unfoldable pub tookBy : List ℕ → ℕ → Reader → List ℕ → reading.Said → TookLine
-tookBy r b reader p reading.more = record { result = 0; record-after = readerNumbers reader; packet = p; body = 0 }
-tookBy r b reader p (reading.body n) = record { result = 0; record-after = readerNumbers reader; packet = p; body = n }
-tookBy r b reader p (reading.refused n) =
-    record { result = n; record-after = pick (keepsRecord n) r (readerNumbers reader); packet = p; body = b }
-
+-- bg_take_line: by what the reader said of the record that was lent
 unfoldable pub tookLine : List ℕ → List ℕ → List ℕ → ℕ → TookLine
 tookLine r line p b =
     let o : reading.Outcome = reading.takeLine (readerOf r) line p in
@@ -85,27 +71,7 @@ configuredBy s tag (slots.refused n) = record { result = n; session = s; tag = t
 unfoldable pub configuredC : List ℕ → ℕ → List ℕ → List ℕ → ConfiguredC
 configuredC layout m s tag = configuredBy s tag (slots.configured (layoutOf layout) m)
 
--- bg_handle: the result, the memory, the session numbers and the tag, the reply buffer and the two numbers
-pub record HandledC : Type 0 where
-  pub result : ℕ
-  pub memory : List ℕ
-  pub session : List ℕ
-  pub tag : List ℕ
-  pub reply : List ℕ
-  pub answer : List ℕ
-
--- a reply was written: the session record is that of the state after
-abbrev pub repliedC : ℕ → ℕ → slots.State → List ℕ → HandledC
-repliedC n reset st b =
-    record { result = 0; memory = st .memory; session = sessionNumbers (st .session); tag = st .tag; reply = b; answer = n ∷ reset ∷ [] }
-
--- by what the request call said
-unfoldable pub handledBy : List ℕ → List ℕ → handling.Outcome → handling.Said → HandledC
-handledBy s a o (handling.replied n) = repliedC n 0 (o .state) (o .reply)
-handledBy s a o (handling.resetAsked n) = repliedC n 1 (o .state) (o .reply)
-handledBy s a o (handling.refused n) =
-    record { result = n; memory = o .state .memory; session = s; tag = o .state .tag; reply = o .reply; answer = a }
-
+-- bg_handle: by what the request call said of the state that was lent
 unfoldable pub handledC : List ℕ → List ℕ → List ℕ → List ℕ → List ℕ → List ℕ → List ℕ → HandledC
 handledC layout m s tag p b a =
     let o : handling.Outcome = handling.handle (layoutOf layout) (slots.stateOf m tag (sessionOf s)) p b in

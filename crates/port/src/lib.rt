@@ -1,6 +1,5 @@
 // The C interface: both ends of the port as functions on numbers, byte slices and small arrays of numbers. include/belagunthi.h declares
 // them, with each promise beside its call.
-use reader::Answer;
 use replies::Heard;
 use sender::Sent;
 use session::Configured;
@@ -22,28 +21,7 @@ pub extern "C" fn bg_take_line(
 {
     let before = records::reader_from(record[0], record[1], record[2], record[3]);
     let taken = reader::take_line(before, line, packet);
-    let answer = taken.answer;
-    let after = taken.reader;
-    match answer {
-        Answer::More => {
-            records::store_reader(record, after);
-            *body = 0;
-            return 0;
-        }
-        Answer::Packet(n) => {
-            records::store_reader(record, after);
-            *body = n as u32;
-            return 0;
-        }
-        Answer::Refused(why) => {
-            let n = refusal::number(why);
-            if records::keeps_record(n) {
-                return n;
-            }
-            records::store_reader(record, after);
-            return n;
-        }
-    }
+    records::told_line(taken, record, body)
 }
 
 // Goes on in a lump, to the end of the next line or to the lump's end: see include/belagunthi.h.
@@ -100,25 +78,9 @@ pub extern "C" fn bg_handle(
         (now (packet .entry)) (now (reply .entry)) (now (answer .entry)) ⌝ }
 {
     let before = records::session_from(record[0], record[1], record[2], record[3]);
-    let regions = records::layout_from(layout[0], layout[1], layout[2], layout[3]);
+    let regions = records::layout_from(layout);
     let handled = controller::handle_packet(regions, before, tag, memory, packet, reply);
-    let said = handled.answer;
-    let after = handled.session;
-    match said {
-        controller::Answer::Replied(n) => {
-            records::store_session(record, after);
-            *answer = [n as u32, 0];
-            return 0;
-        }
-        controller::Answer::ResetAsked(n) => {
-            records::store_session(record, after);
-            *answer = [n as u32, 1];
-            return 0;
-        }
-        controller::Answer::Refused(why) => {
-            return refusal::number(why);
-        }
-    }
+    records::told_handled(handled, record, answer)
 }
 
 // The sequence number after this one.
@@ -213,7 +175,7 @@ pub extern "C" fn bg_configure(
     ensures { λ r. ⌜ record { result = r; session = now (session .exit); tag = now (tag .exit) } ≡ configuredC (now (layout .entry)) room
         (now (session .entry)) (now (tag .entry)) ⌝ }
 {
-    let regions = records::layout_from(layout[0], layout[1], layout[2], layout[3]);
+    let regions = records::layout_from(layout);
     match session::configure(regions, room) {
         Configured::Ready(_) => {
             *session = [0u32; 4];

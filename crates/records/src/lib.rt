@@ -1,10 +1,12 @@
 // The records and answers of both ends as arrays of numbers, and back.
 use collector::Collector;
 use collector::Got;
+use controller::Handled;
 use host::Written;
 use laws::Number;
 use laws::Run;
 use reader::Reader;
+use reader::Taken;
 use replies::Reply;
 use session::Layout;
 use session::Session;
@@ -16,10 +18,12 @@ ghost use lib.ListN.{length};
 ghost use Rattle.map.specs.Fields.{flagNumber};
 ghost use Rattle.frame.specs.Line.{longest};
 ghost use Rattle.collector.specs.Collector.{most, said};
-ghost use Rattle.records.specs.Records.{layoutFrom, collectorFrom, collectorNumbers, readerNumbers, sessionNumbers, flagOf, readerFrom};
+ghost use Rattle.records.specs.Records.{layoutOf, collectorFrom, collectorNumbers, readerNumbers, sessionNumbers, flagOf, readerFrom};
 ghost use Rattle.records.specs.Records.{sessionFrom, thereOf, runThere, runStart, runLength, replyNumbers};
-ghost use Rattle.records.specs.Results.{stepResult, stepLength, wentOn, keepsRecord, wroteBy};
-ghost use Rattle.records.specs.Inner.{Storable, Held32, ReplySmall};
+ghost use Rattle.records.specs.Results.{stepResult, stepLength, wentOn, keepsRecord, tookBy, handledBy, wroteBy};
+ghost use Rattle.records.specs.Inner.{Storable, SmallBy, Held32, HandledSmall, ReplySmall};
+ghost use Rattle.reader.specs.Reader as reading;
+ghost use Rattle.controller.specs.Handle as handling;
 ghost use Rattle.host.specs.Write.{told, packet};
 ghost use Rattle.replies.specs.Read.{orZero};
 
@@ -45,7 +49,7 @@ pub fn reader_from(open: u32, total: u32, come: u32, first: u32) -> Reader
 }
 
 // The reader's record goes to its four numbers.
-pub fn store_reader(record: &mut [u32; 4], reader: Reader)
+fn store_reader(record: &mut [u32; 4], reader: Reader)
     requires { ⌜ Storable reader ⌝ }
     ensures { λ _. ⌜ now («record» .exit) ≡ readerNumbers reader ⌝ }
 {
@@ -60,7 +64,7 @@ pub fn store_reader(record: &mut [u32; 4], reader: Reader)
 }
 
 // Whether a refusal leaves the reader's record as it was lent.
-pub fn keeps_record(n: u32) -> bool
+fn keeps_record(n: u32) -> bool
     ensures { λ r. ⌜ r ≡ keepsRecord n ⌝ }
 {
     if n == 2 {
@@ -104,7 +108,7 @@ pub fn session_from(running: u32, length: u32, place: u32, tagged: u32) -> Sessi
 }
 
 // The session record goes to its four numbers.
-pub fn store_session(record: &mut [u32; 4], session: Session)
+fn store_session(record: &mut [u32; 4], session: Session)
     requires { ⌜ Held32 session ⌝ }
     ensures { λ _. ⌜ now («record» .exit) ≡ sessionNumbers session ⌝ }
 {
@@ -174,18 +178,78 @@ pub fn went_on(result: u32) -> bool
 }
 
 // The two regions out of their four numbers.
-pub fn layout_from(start0: usize, size0: usize, start1: usize, size1: usize) -> Layout
-    ensures { λ r. ⌜ r ≡ layoutFrom start0 size0 start1 size1 ⌝ }
+pub fn layout_from(numbers: &[usize; 4]) -> Layout
+    ensures { λ r. ⌜ r ≡ layoutOf (now (numbers .entry)) ⌝ }
 {
     let slot0 = Slot {
-        start: start0,
-        size: size0,
+        start: numbers[0],
+        size: numbers[1],
     };
     let slot1 = Slot {
-        start: start1,
-        size: size1,
+        start: numbers[2],
+        size: numbers[3],
     };
     Layout { slot0, slot1 }
+}
+
+// What the reader gave, as a result: its record and a body's length are stored, where they do not stay.
+pub fn told_line(taken: Taken, record: &mut [u32; 4], body: &mut u32) -> u32
+    requires { ⌜ SmallBy (reading.said (taken .answer)) (taken .reader) ⌝ }
+    ensures { λ r. ⌜ ((p : List ℕ) → record { result = r; record-after = now («record» .exit); packet = p; body = now (body .exit) }
+        ≡ tookBy (now («record» .entry)) (now (body .entry)) (taken .reader) p (reading.said (taken .answer))) ⌝ }
+{
+    let answer = taken.answer;
+    let after = taken.reader;
+    match answer {
+        reader::Answer::More => {
+            store_reader(record, after);
+            *body = 0;
+            return 0;
+        }
+        reader::Answer::Packet(n) => {
+            store_reader(record, after);
+            *body = n as u32;
+            return 0;
+        }
+        reader::Answer::Refused(why) => {
+            let n = refusal::number(why);
+            if keeps_record(n) {
+                return n;
+            }
+            store_reader(record, after);
+            return n;
+        }
+    }
+}
+
+// What the request call gave, as a result: the session record, the reply's length and whether a reset is asked are stored, where nothing refused it.
+pub fn told_handled(handled: Handled, record: &mut [u32; 4], answer: &mut [u32; 2]) -> u32
+    requires { ⌜ Held32 (handled .session) × HandledSmall (handling.said (handled .answer)) ⌝ }
+    ensures { λ r. ⌜ ((m tag b : List ℕ) → record {
+      result = r;
+      memory = m;
+      session = now («record» .exit);
+      tag = tag;
+      reply = b;
+      answer = now (answer .exit);
+    } ≡ handledBy (now («record» .entry)) (now (answer .entry)) (handling.outcome handled m tag b) (handling.said (handled .answer))) ⌝ }
+{
+    let said = handled.answer;
+    match said {
+        controller::Answer::Replied(n) => {
+            store_session(record, handled.session);
+            *answer = [n as u32, 0];
+            return 0;
+        }
+        controller::Answer::ResetAsked(n) => {
+            store_session(record, handled.session);
+            *answer = [n as u32, 1];
+            return 0;
+        }
+        controller::Answer::Refused(why) => {
+            return refusal::number(why);
+        }
+    }
 }
 
 // What a writer said, as a result: the packet's length is stored.

@@ -12,18 +12,6 @@ use borrow.Author.Needs.{needs}
 use Rattle.port.proofs.bg_configure.Statement.{statement}
 use Rattle.port.proofs.bg_configure.Tie as tie
 
-element-copy-out-layout-from : tie.Need-element-copy-out-layout-from
-element-copy-out-layout-from c = search needs
-
-element-copy-out-layout-from-2 : tie.Need-element-copy-out-layout-from-2
-element-copy-out-layout-from-2 c = search needs
-
-element-copy-out-layout-from-3 : tie.Need-element-copy-out-layout-from-3
-element-copy-out-layout-from-3 c = search needs
-
-element-copy-out-layout-from-4 : tie.Need-element-copy-out-layout-from-4
-element-copy-out-layout-from-4 c = search needs
-
 layout-from-requires : tie.Need-layout-from-requires
 layout-from-requires c κs = search needs
 
@@ -36,7 +24,7 @@ enum-told c = search needs
 returns : tie.Need-returns
 unfolding configuredC configuredBy sessionNumbers flagNumber
 returns c =
-    let a = c .before .before .before .before .before .before .before .before .before .before .args in
+    let a = c .before .before .before .before .before .before .args in
     sym (ap (λ (x : Configured). configuredBy (a .session .now) (a .tag .now) (said x)) (c .before .before .enum-told .given .1))
     ∙ ap (λ (x : Said). configuredBy (a .session .now) (a .tag .now) x) (c .before .before .before .before .configure .ensures)
     ∙ ap (λ (x : Layout). configuredBy (a .session .now) (a .tag .now) (configured x (a .room)))
@@ -51,7 +39,7 @@ number-requires c κs = search needs
 returns-2 : tie.Need-returns-2
 unfolding configuredC configuredBy
 returns-2 c =
-    let a = c .before .before .before .before .before .before .before .before .before .before .args in
+    let a = c .before .before .before .before .before .before .args in
     let with-result : ℕ → ConfiguredC = λ n. record { result = n; session = a .session .now; tag = a .tag .now } in
     ap with-result (c .number .ensures)
     ∙ sym (ap (λ (x : Configured). configuredBy (a .session .now) (a .tag .now) (said x)) (c .before .before .refusal .given .1))
@@ -61,13 +49,4 @@ returns-2 c =
 
 pub bg-configure-spec : {M : Type 1} → statement M
 bg-configure-spec =
-    tie.close
-    (tie.spec
-    element-copy-out-layout-from
-    element-copy-out-layout-from-2
-    element-copy-out-layout-from-3
-    element-copy-out-layout-from-4
-    layout-from-requires
-    configure-requires
-    enum-told
-    returns enum-known-refusal number-requires returns-2)
+    tie.close (tie.spec layout-from-requires configure-requires enum-told returns enum-known-refusal number-requires returns-2)
