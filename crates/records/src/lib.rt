@@ -192,7 +192,7 @@ pub fn layout_from(numbers: &[usize; 4]) -> Layout
     Layout { slot0, slot1 }
 }
 
-// What the reader gave, as a result: its record and a body's length are stored, where they do not stay.
+// What the reader gave, as a result: its record and the body's length are stored, unless a refusal leaves them.
 pub fn told_line(taken: Taken, record: &mut [u32; 4], body: &mut u32) -> u32
     requires { ⌜ SmallBy (reading.said (taken .answer)) (taken .reader) ⌝ }
     ensures { λ r. ⌜ ((p : List ℕ) → record { result = r; record-after = now («record» .exit); packet = p; body = now (body .exit) }
@@ -222,7 +222,8 @@ pub fn told_line(taken: Taken, record: &mut [u32; 4], body: &mut u32) -> u32
     }
 }
 
-// What the request call gave, as a result: the session record, the reply's length and whether a reset is asked are stored, where nothing refused it.
+// What the request call gave, as a result: unless it refused, the session record is stored, and the reply's length with whether a reset is
+// asked.
 pub fn told_handled(handled: Handled, record: &mut [u32; 4], answer: &mut [u32; 2]) -> u32
     requires { ⌜ Held32 (handled .session) × HandledSmall (handling.said (handled .answer)) ⌝ }
     ensures { λ r. ⌜ ((m tag b : List ℕ) → record {
