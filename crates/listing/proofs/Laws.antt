@@ -1,22 +1,20 @@
--- The list's parts: decimal digits, a turn of the loop that writes them, the parts in the order in which they are written, and how long each is.
+-- The list's parts, in the order in which they are written, and how long each is.
 -- Assumes nothing.
 use Prim.{Unit}
 use mathlib.Core.Path.{_≡_, refl, sym, ap}
 use mathlib.Core.Option.{Option, none, some}
 use mathlib.Core.List.{List, _++_, append-assoc}
-use Prim.Native.Nat.{ℕ, zero, suc, _+_, _-_, _/_, _%_, _^_, _≤_, _<_}
-use native.Mathlib.Nat.{pow-suc, div-div-eq-div-mul, div-one}
+use Prim.Native.Nat.{ℕ, _+_, _-_, _≤_, _<_}
 use native.Mathlib.Omega.{arith}
-use lib.Dec.{ltb, lit<}
-use borrow.Author.Tests.{ltb-false}
-use lib.ListN.{length, take, drop, set, length-append, length-take, length-drop}
-use Rattle.laws.specs.Bytes.{Bytes, pasted}
+use lib.Dec.{lit<}
+use lib.ListN.{length, take, drop, length-append, length-take, length-drop}
+use Rattle.laws.specs.Bytes.{Bytes}
 use Rattle.laws.specs.Parts.{partOf}
-use Rattle.laws.proofs.Choice.{pick-case}
-use Rattle.laws.proofs.Lists.{pasted-none, bytes-take, bytes-drop}
+use Rattle.laws.proofs.Lists.{bytes-take, bytes-drop}
+use Rattle.decimal.specs.Decimal.{digitCount}
+use Rattle.decimal.proofs.Laws.{digits-length, count-most, byte-digits}
 use Rattle.cbor.specs.Write.{headOf, unsigned, bytesOf, textOf, mapOf}
 use Rattle.cbor.proofs.Laws.{head-size, form-one}
-use Rattle.cbor.proofs.Numbers.{pasted-before}
 use Rattle.map.specs.Keys.{nameSlot}
 use Rattle.session.specs.declared.Slot.{Slot}
 use Rattle.session.specs.declared.Layout.{Layout}
@@ -31,8 +29,6 @@ use Rattle.listing.specs.Listing.{
   nameImages,
   nameVersion,
   nameHash,
-  digits,
-  digitCount,
   versionText,
   arrayOf,
   imageMap,
@@ -43,59 +39,15 @@ use Rattle.listing.specs.Listing.{
 }
 use Rattle.listing.specs.Inner.{namedPart, imageLength, listFront}
 
--- as many digits as were asked for
-pub digits-length : (w n : ℕ) → length (digits w n) ≡ w
-unfolding digits
-digits-length zero n = refl
-digits-length (suc w) n = ap suc (digits-length w n)
-
--- nothing is written yet
-pub digits-none : (m : List ℕ) (at w n : ℕ) → m ≡ pasted m at (digits (w - w) n)
-unfolding digits
-digits-none m at w n =
-    let e : w - w ≡ 0 = omega arith in
-    rw e (sym (pasted-none m at))
-
--- nothing is taken off the number yet
-pub tens-none : (w n : ℕ) → n ≡ n / 10 ^ (w - w)
-tens-none w n =
-    let e : w - w ≡ 0 = omega arith in
-    rw (e, div-one)
-
--- one digit is written, the one before those that are
-pub digits-turn : (m : List ℕ) (at i w n : ℕ) → 0 < i → i ≤ w → at + w ≤ length m
-    → set (pasted m (at + i) (digits (w - i) n)) (at + (i - 1)) (48 + n / 10 ^ (w - i) % 10) ≡ pasted m (at + (i - 1)) (digits (w - (i - 1)) n)
-unfolding digits
-digits-turn m at i w n p h k =
-    let e : w - (i - 1) ≡ suc (w - i) = omega arith in
-    let next : at + i ≡ at + (i - 1) + 1 = omega arith in
-    rw (e, next, pasted-before m (at + (i - 1)) (48 + n / 10 ^ (w - i) % 10) (digits (w - i) n) (rw digits-length (omega arith)))
-
--- what is left of the number after it
-pub tens-turn : (n i w : ℕ) → 0 < i → i ≤ w → n / 10 ^ (w - i) / 10 ≡ n / 10 ^ (w - (i - 1))
-tens-turn n i w p h =
-    let e : w - (i - 1) ≡ suc (w - i) = omega arith in
-    rw (e, pow-suc, div-div-eq-div-mul)
-
--- a number has at most five digits
-count-most : (n : ℕ) → digitCount n ≤ 5
-unfolding digitCount
-count-most n =
-    let P : ℕ → Type 0 = λ k. k ≤ 5 in
-    pick-case P (ltb n 10) _ _ (λ e. lit< tt)
-    (λ e. pick-case P (ltb n 100) _ _ (λ f. lit< tt)
-    (λ f. pick-case P (ltb n 1000) _ _ (λ g. lit< tt)
-    (λ g. pick-case P (ltb n 10000) _ _ (λ h. lit< tt) (λ h. lit< tt))))
-
 -- how long a version is
 pub version-length : (major minor revision : ℕ) → length (versionText major minor revision)
-    ≡ digitCount major + digitCount minor + digitCount revision + 2
+    ≡ digitCount 4 major + digitCount 4 minor + digitCount 4 revision + 2
 version-length major minor revision = simp (length-append, digits-length) (omega arith)
 
 -- at most 17 bytes
 version-most : (major minor revision : ℕ) → length (versionText major minor revision) ≤ 17
 version-most major minor revision =
-    omega (arith, version-length major minor revision, count-most major, count-most minor, count-most revision)
+    omega (arith, version-length major minor revision, count-most 4 major, count-most 4 minor, count-most 4 revision)
 
 -- two lists after another are grouped to the left
 pub three-parts : (x y z : List ℕ) → x ++ (y ++ z) ≡ (x ++ y) ++ z
@@ -199,15 +151,6 @@ list-long m layout =
     sums : (a b c d e : List ℕ) → length (a ++ (b ++ (c ++ (d ++ e)))) ≡ length a + length b + length c + length d + length e
     sums a b c d e = simp length-append (omega arith)
 
--- a byte has at most three digits
-byte-digits : (n : ℕ) → n < 256 → digitCount n ≤ 3
-unfolding digitCount
-byte-digits n h =
-    let P : ℕ → Type 0 = λ k. k ≤ 3 in
-    pick-case P (ltb n 10) _ _ (λ e. lit< tt)
-    (λ e. pick-case P (ltb n 100) _ _ (λ f. lit< tt)
-    (λ f. pick-case P (ltb n 1000) _ _ (λ g. lit< tt) (λ g. absurd (omega (arith, ltb-false n 1000 g)))))
-
 -- an image's major and minor number are bytes where its region's are
 abbrev Numbered : Image → Type 0
 Numbered Image.Absent = Unit {0}
@@ -230,7 +173,7 @@ image-most : (image : Image) → Numbered image → imageLength image ≤ 68
 unfolding imageLength
 image-most Image.Absent h = omega arith
 image-most (Image.At major minor revision hash) h =
-    omega (arith, version-length major minor revision, byte-digits major (h .0), byte-digits minor (h .1), count-most revision)
+    omega (arith, version-length major minor revision, byte-digits 4 major (h .0), byte-digits 4 minor (h .1), count-most 4 revision)
 
 -- and the reply with a list at most 153
 pub list-fits : ListFits

@@ -1,13 +1,12 @@
 -- The list of images: "The reply is {"images": [...]} without "rc". Each valid image gives slot, version as major.minor.revision, and hash, in
 -- that order; others are skipped."
 -- Assumes nothing.
-use Prim.Native.Nat.{ℕ, zero, suc, _+_, _/_, _%_, _^_, _≤_}
+use Prim.Native.Nat.{ℕ, _+_, _≤_}
 use mathlib.Core.List.{List, [], _∷_, _++_}
-use lib.Dec.{ltb}
 use lib.ListN.{length}
-use Rattle.laws.specs.Choice.{pick}
 use Rattle.laws.specs.Bytes.{Bytes}
 use Rattle.laws.specs.Parts.{partOf}
+use Rattle.decimal.specs.Decimal.{decimal}
 use Rattle.cbor.specs.Write.{headOf, unsigned, bytesOf, textOf, mapOf}
 use Rattle.map.specs.Keys.{nameSlot}
 use Rattle.session.specs.declared.Slot.{Slot}
@@ -26,22 +25,13 @@ nameVersion = 0x76 ∷ 0x65 ∷ 0x72 ∷ 0x73 ∷ 0x69 ∷ 0x6F ∷ 0x6E ∷ []
 abbrev pub nameHash : List ℕ
 nameHash = 0x68 ∷ 0x61 ∷ 0x73 ∷ 0x68 ∷ []
 
--- the last w decimal digits of n, the highest first, in ASCII
-unfoldable pub digits : ℕ → ℕ → List ℕ
-digits zero n = []
-digits (suc w) n = (48 + n / 10 ^ w % 10) ∷ digits w n
-
--- how many decimal digits a number below 100,000 has
-unfoldable pub digitCount : ℕ → ℕ
-digitCount n = pick (ltb n 10) 1 (pick (ltb n 100) 2 (pick (ltb n 1000) 3 (pick (ltb n 10000) 4 5)))
-
 -- a number below 100,000 in decimal
-abbrev pub decimal : ℕ → List ℕ
-decimal n = digits (digitCount n) n
+abbrev pub five : ℕ → List ℕ
+five n = decimal 4 n
 
 -- a version as text: "major.minor.revision"
 abbrev pub versionText : ℕ → ℕ → ℕ → List ℕ
-versionText major minor revision = (decimal major ++ (0x2E ∷ [])) ++ ((decimal minor ++ (0x2E ∷ [])) ++ decimal revision)
+versionText major minor revision = (five major ++ (0x2E ∷ [])) ++ ((five minor ++ (0x2E ∷ [])) ++ five revision)
 
 -- an array's head
 abbrev pub arrayOf : ℕ → List ℕ

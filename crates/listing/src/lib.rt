@@ -5,10 +5,8 @@ use session::Slot;
 use smp::Header;
 ghost use mathlib.Core.Path.{_≡_};
 ghost use mathlib.Core.Bool.{true};
-ghost use mathlib.Core.List.{[], _∷_, _++_};
 ghost use Prim.Native.Nat.{_+_, _≤_, _<_};
 ghost use lib.ListN.{length};
-ghost use Rattle.laws.specs.Bytes.{pasted};
 ghost use Rattle.laws.specs.Parts.{partOf};
 ghost use Rattle.cbor.specs.Inner.{Put};
 ghost use Rattle.cbor.specs.Write.{bytesOf, textOf};
@@ -17,69 +15,19 @@ ghost use Rattle.slot.specs.History.{slotIn};
 ghost use Rattle.smp.specs.Reply.{replyPacket};
 ghost use Rattle.smp.specs.Inner.{Written};
 ghost use Rattle.images.specs.Inner.{ImageWithin};
-ghost use Rattle.listing.specs.Listing.{digits, digitCount, decimal, versionText, imageMap, imageCount, imageAt, listMap};
+ghost use Rattle.listing.specs.Listing.{versionText, imageMap, imageCount, imageAt, listMap};
 ghost use Rattle.listing.specs.Inner.{namedPart, imageLength, listFront};
 
-// How many decimal digits n has.
-fn digit_count(n: usize) -> usize
-    ensures { λ r. ⌜ (r ≡ digitCount n) × (1 ≤ r) × (r ≤ 5) ⌝ }
-{
-    if n < 10 {
-        return 1;
-    }
-    if n < 100 {
-        return 2;
-    }
-    if n < 1000 {
-        return 3;
-    }
-    if n < 10000 {
-        return 4;
-    }
-    5
-}
-
-// Writes the last w decimal digits of n into buf from place at on; the other bytes of buf stay.
-fn put_digits(buf: &mut [u8], at: usize, w: usize, n: usize)
-    requires { ⌜ at + w ≤ length (now buf) ⌝ }
-    ensures { λ _. ⌜ now (buf .exit) ≡ pasted (now (buf .entry)) at (digits w n) ⌝ }
-{
-    let mut v = n;
-    let mut i = w;
-    while 0 < i {
-        i -= 1;
-        buf[at + i] = (48 + v % 10) as u8;
-        v = v / 10;
-    }
-}
-
-// Writes a number in decimal into buf from place at on, and gives the place after it.
-fn put_decimal(buf: &mut [u8], at: usize, n: usize) -> usize
-    requires { ⌜ at + length (decimal n) ≤ length (now buf) ⌝ }
-    ensures { λ r. ⌜ Put r (now (buf .exit)) (now (buf .entry)) at (decimal n) ⌝ }
-{
-    let w = digit_count(n);
-    put_digits(buf, at, w, n);
-    at + w
-}
-
-// Writes a number in decimal and a point into buf from place at on, and gives the place after them.
-fn put_pointed(buf: &mut [u8], at: usize, n: usize) -> usize
-    requires { ⌜ at + length (decimal n ++ (0x2E ∷ [])) ≤ length (now buf) ⌝ }
-    ensures { λ r. ⌜ Put r (now (buf .exit)) (now (buf .entry)) at (decimal n ++ (0x2E ∷ [])) ⌝ }
-{
-    let next = put_decimal(buf, at, n);
-    buf[next] = 0x2E;
-    next + 1
-}
+// The most digits of a number below 100,000 after its first.
+const MORE: usize = 4;
 
 // How long a version is as text.
 fn version_len(major: u8, minor: u8, revision: usize) -> usize
     ensures { λ r. ⌜ (r ≡ length (versionText major minor revision)) × (r ≤ 17) ⌝ }
 {
-    let first = digit_count(laws::wide(major));
-    let second = digit_count(laws::wide(minor));
-    let third = digit_count(revision);
+    let first = decimal::digit_count(MORE, laws::wide(major));
+    let second = decimal::digit_count(MORE, laws::wide(minor));
+    let third = decimal::digit_count(MORE, revision);
     first + second + third + 2
 }
 
@@ -88,9 +36,9 @@ fn put_version(buf: &mut [u8], at: usize, major: u8, minor: u8, revision: usize)
     requires { ⌜ at + length (versionText major minor revision) ≤ length (now buf) ⌝ }
     ensures { λ r. ⌜ Put r (now (buf .exit)) (now (buf .entry)) at (versionText major minor revision) ⌝ }
 {
-    let second = put_pointed(buf, at, major as usize);
-    let third = put_pointed(buf, second, minor as usize);
-    put_decimal(buf, third, revision)
+    let second = decimal::put_ended(buf, at, MORE, major as usize, 0x2E);
+    let third = decimal::put_ended(buf, second, MORE, minor as usize, 0x2E);
+    decimal::put_decimal(buf, third, MORE, revision)
 }
 
 // Writes a version as a text string into buf from place at on, and gives the place after it.

@@ -2,7 +2,7 @@
 -- Assumes nothing.
 use mathlib.Core.Path.{ap, _∙_}
 use native.Mathlib.Omega.{arith}
-use Rattle.listing.specs.Listing.{digitCount}
+use Rattle.decimal.specs.Decimal.{digitCount}
 use Rattle.listing.proofs.Laws.{version-length}
 use borrow.Author.Needs.{needs}
 use Rattle.listing.proofs.version_len.Statement.{statement}
@@ -35,8 +35,8 @@ add-result-3 c = search needs
 returns : tie.Need-returns
 returns c =
     let a = c .before .before .before .before .before .args in
-    let first = c .before .before .before .digit-count .ensures .0 ∙ ap digitCount (c .before .before .before .before .wide .ensures .0) in
-    let second = c .before .digit-count2 .ensures .0 ∙ ap digitCount (c .before .before .wide2 .ensures .0) in
+    let first = c .before .before .before .digit-count .ensures .0 ∙ ap (digitCount 4) (c .before .before .before .before .wide .ensures .0) in
+    let second = c .before .digit-count2 .ensures .0 ∙ ap (digitCount 4) (c .before .before .wide2 .ensures .0) in
     (omega (arith, first, second, version-length (a .major) (a .minor) (a .revision)), omega arith)
 
 pub version-len-spec : {M : Type 1} → statement M

@@ -1,4 +1,4 @@
--- `listing::put_digits` meets its contract: the last digits are written first, and what is left of n is n without them.
+-- `decimal::put_digits` meets its contract: the last digits are written first, and what is left of n is n without them.
 -- Assumes nothing.
 use mathlib.Core.Path.{_≡_, refl, ap, ap₂, _∙_}
 use mathlib.Core.List.{List}
@@ -6,10 +6,10 @@ use Prim.Native.Nat.{ℕ, _+_, _-_, _/_, _%_, _^_, _≤_}
 use native.Mathlib.Omega.{arith}
 use lib.ListN.{length, set, length-set}
 use Rattle.laws.specs.Bytes.{pasted}
-use Rattle.listing.specs.Listing.{digits}
-use Rattle.listing.proofs.Laws.{digits-none, tens-none, digits-turn, tens-turn}
-use Rattle.listing.proofs.put_digits.Statement.{statement}
-use Rattle.listing.proofs.put_digits.Tie as tie
+use Rattle.decimal.specs.Decimal.{digits}
+use Rattle.decimal.proofs.Laws.{digits-none, tens-none, digits-turn, tens-turn}
+use Rattle.decimal.proofs.put_digits.Statement.{statement}
+use Rattle.decimal.proofs.put_digits.Tie as tie
 
 abbrev Inv-loop : tie.InvT-loop
 Inv-loop buf₀ at w n v₀ i₀ buf v i =
