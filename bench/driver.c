@@ -21,6 +21,7 @@
 
 enum { STRIDE = 128, PACKET = 1024, BODY = 512, LONGEST = 65533, BEFORE_LAST = 65000 };
 enum { DATA = 480, CHUNK = 512, TEXT = 256, PAIRS = 24, MAPS = 2000, ERASES = 4 };
+enum { RECORDING = 49152, RECORDS = RECORDING / 3, TRAILER = 8, BENCH_SLOT = BG_BENCH_MEMORY / 2 };
 
 /* The calls of one program. */
 struct port {
@@ -33,14 +34,17 @@ struct port {
     __typeof__(bg_write_upload) *write_upload;
     __typeof__(bg_read_reply) *read_reply;
     __typeof__(bg_next_sequence) *next_sequence;
+    __typeof__(bg_replay) *replay;
+    __typeof__(bg_write_transcript) *write_transcript;
 };
 
 static const struct port archive = {
     bg_collect, bg_take_line, bg_send_frame, bg_configure, bg_handle, bg_write_echo, bg_write_upload, bg_read_reply, bg_next_sequence,
+    bg_replay, bg_write_transcript,
 };
 static const struct port plain = {
     plain_collect, plain_take_line, plain_send_frame, plain_configure, plain_handle, plain_write_echo, plain_write_upload, plain_read_reply,
-    plain_next_sequence,
+    plain_next_sequence, plain_replay, plain_write_transcript,
 };
 static const struct port *port;
 
@@ -62,6 +66,14 @@ static const char *family;
 static uint32_t begun[4];
 static uint8_t begun_tag[32];
 static size_t first_request;
+
+/* The bench that a recording is replayed on, and the answers. */
+static struct {
+    uint8_t memory[BG_BENCH_MEMORY], tag[BG_TAG], packet[BG_BENCH_BUFFER], reply[BG_BENCH_BUFFER];
+    uint32_t session[BG_SESSION], reader[BG_READER], answers[BG_ANSWER * RECORDS];
+    size_t count;
+} bench;
+static uint8_t recording[RECORDING];
 
 /* Ends with one line where a call was refused or a result is wrong. */
 static void fail(const char *what)
@@ -240,6 +252,16 @@ static void run_upload(void)
     upload(true);
 }
 
+/* Replays the recording, and writes the transcript. */
+static void run_replay(void)
+{
+    if (port->replay(recording, RECORDING, bench.memory, bench.session, bench.tag, bench.reader, bench.packet, bench.reply, bench.answers,
+                     BG_ANSWER * RECORDS, &bench.count) != 0)
+        fail("a recording was refused");
+    if (port->write_transcript(bench.answers, BG_ANSWER * RECORDS, bench.count, bench.session, out, RECORDING, &out_len) != 0)
+        fail("a transcript was refused");
+}
+
 /* Nothing has to be there before. */
 static void make_nothing(void)
 {
@@ -261,6 +283,41 @@ static void make_stream(void)
 static void make_upload(void)
 {
     upload(false);
+}
+
+/* Writes a number in four bytes, the high one first. */
+static void put_number(uint8_t *to, size_t number)
+{
+    const uint8_t bytes[] = {(uint8_t)(number >> 24), (uint8_t)(number >> 16), (uint8_t)(number >> 8), (uint8_t)number};
+    memcpy(to, bytes, sizeof bytes);
+}
+
+/* Records the lines of uploads that fill the bench's slot, one after the other, until no line more has room; zeros stand before them. */
+static void make_recording(void)
+{
+    uint8_t request[PACKET], line[BG_LINE];
+    size_t at = 0, number = 0, off = 0;
+    for (bool full = false; !full;) {
+        size_t data = BENCH_SLOT - off < DATA ? BENCH_SLOT - off : DATA;
+        uint32_t length, sent[2] = {0, 1};
+        if (port->write_upload(0, image + off, data, off, BENCH_SLOT, NULL, 0, request, PACKET, &length) != 0)
+            fail("an upload was refused");
+        for (size_t k = 0; k < sent[1] && !full; k++) {
+            if (port->send_frame(request, length, k, line, BG_LINE, sent) != 0)
+                fail("a frame was refused");
+            full = at + 3 + sent[0] > RECORDING - TRAILER;
+            if (!full) {
+                memcpy(out + at, (uint8_t[]){BG_TO_CONTROLLER, 0, (uint8_t)sent[0]}, 3);
+                memcpy(out + at + 3, line, sent[0]);
+                at += 3 + sent[0];
+                number++;
+            }
+        }
+        off = (off + data) % BENCH_SLOT;
+    }
+    memcpy(recording + RECORDING - TRAILER - at, out, at);
+    put_number(recording + RECORDING - 8, at);
+    put_number(recording + RECORDING - 4, number);
 }
 
 /* Writes the echo requests. */
@@ -537,6 +594,13 @@ static struct result uploaded(void)
     return (struct result){digest(no_bytes, memory, image_len), image_len, request_count};
 }
 
+/* The transcript, and the bench's memory. */
+static struct result replayed(void)
+{
+    uint64_t value = digest(digest(no_bytes, out, out_len), bench.memory, BG_BENCH_MEMORY);
+    return (struct result){value, RECORDING, bench.count};
+}
+
 /* A path: what is made before, one round, and what it produced. */
 static const struct path {
     const char *name;
@@ -566,6 +630,7 @@ static const struct path {
     {"list60000", make_list, run_handle, listed, 60000, 0, 0},
     {"frames", make_upload, run_frames, passed, 0, 0, 0},
     {"upload", make_nothing, run_upload, uploaded, 0, 0, 0},
+    {"replay", make_recording, run_replay, replayed, 0, 0, 0},
     {"fill", make_fill, run_handle, answered, 0, 0, 0},
 };
 

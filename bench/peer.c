@@ -12,7 +12,7 @@
 #include <stdlib.h>
 #include <string.h>
 
-enum { GUARD = 32, MEMORY_MAX = 1048576 + 4096, LONGEST = 65533 };
+enum { GUARD = 32, MEMORY_MAX = 1048576 + 4096, LONGEST = 65533, FILE_MAX = 8192, REQUEST_MOST = 400, ANSWERS_MAX = 64 };
 
 /* The kinds of outcome, each with its name. */
 #define OUTCOMES(is)                                                                                                                    \
@@ -48,7 +48,11 @@ enum { GUARD = 32, MEMORY_MAX = 1048576 + 4096, LONGEST = 65533 };
     is(CHUNK_12_ROOM, "upload refused 12, the output") is(READ_10_SHORT, "reply: refused 10, under 8 bytes")                            \
     is(READ_10_LENGTH, "reply: refused 10, another length") is(READ_10_LONG, "reply: refused 10, over 65,533 bytes")                    \
     is(READ_10_OP, "reply: refused 10, the op") is(READ_10_MAP, "reply: refused 10, the map") is(READ_NOTHING, "reply: none of the keys") \
-    is(READ_RC, "reply: rc alone") is(READ_OFF, "reply: off") is(READ_TEXT, "reply: text") is(SEQUENCE, "next sequence")
+    is(READ_RC, "reply: rc alone") is(READ_OFF, "reply: off") is(READ_TEXT, "reply: text") is(SEQUENCE, "next sequence")                \
+    is(REPLAY_12_FILE, "replay: refused 12, no recording") is(REPLAY_12_ANSWERS, "replay: refused 12, the answers")                     \
+    is(REPLAY_NONE, "replay: no lines") is(REPLAY_OPEN, "replay: a session at the end") is(REPLAY_CLOSED, "replay: none at the end")    \
+    is(TEXT_12_ANSWERS, "transcript: refused 12, the answers") is(TEXT_12_ROOM, "transcript: refused 12, the output")                   \
+    is(TEXT_NONE, "transcript: end none") is(TEXT_PLACE, "transcript: end and a place")
 
 #define AS_NUMBER(outcome, name) outcome,
 #define AS_NAME(outcome, name) name,
@@ -69,11 +73,12 @@ struct twin {
 struct numbers {
     uint32_t record[4], answer[2], reply[12], one;
     uint8_t tag[32];
+    size_t count;
 };
 
-static struct twin memory, packet_buffer, reply_buffer, out_buffer, held_buffer;
+static struct twin memory, packet_buffer, reply_buffer, out_buffer, held_buffer, answer_buffer;
 static struct numbers lent[2];
-static uint8_t packet[PACKET_MAX], line[LINE_MAX], lump[LUMP_MAX], body[PACKET_MAX];
+static uint8_t packet[PACKET_MAX], line[LINE_MAX], lump[LUMP_MAX], body[PACKET_MAX], file[FILE_MAX];
 
 /* Ends with what differs. */
 static void differ(const char *call, const char *what)
@@ -618,10 +623,124 @@ static void check_sequence(void)
     met(SEQUENCE);
 }
 
+/* Adds a record of the line to the file, unless that is full; gives the file's length then. */
+static size_t put_record(size_t at, size_t length)
+{
+    if (at + 3 + length + 8 > FILE_MAX)
+        return at;
+    file[at] = once_in(&rng, 6) ? BG_FROM_CONTROLLER : BG_TO_CONTROLLER;
+    file[at + 1] = (uint8_t)(length >> 8);
+    file[at + 2] = (uint8_t)length;
+    memcpy(file + at + 3, line, length);
+    return at + 3 + length;
+}
+
+/* Adds a record to the file for each frame of a request to the bench; gives the file's length then, and counts the records. */
+static size_t put_request(size_t at, size_t *number)
+{
+    const struct device device = {BG_BENCH_MEMORY, 0, BG_BENCH_MEMORY / 2, BG_BENCH_MEMORY / 2, BG_BENCH_MEMORY / 2, {0}, {0}};
+    size_t length = make_request(&rng, &device, packet);
+    uint32_t sent[2] = {0, 1};
+    if (length > REQUEST_MOST)
+        return at;
+    for (uint32_t k = 0; k < sent[1] && bg_send_frame(packet, length, k, line, BG_LINE, sent) == 0; k++) {
+        size_t next = put_record(at, once_in(&rng, 12) ? damage_line(&rng, line, sent[0]) : sent[0]);
+        *number += next > at;
+        at = next;
+    }
+    return at;
+}
+
+/* Makes a recording of requests and of any lines, behind a preface, now and then spoilt; gives its length. */
+static size_t make_recording(void)
+{
+    size_t first = once_in(&rng, 3) ? below(&rng, 30) : 0, at = first, number = 0;
+    fill(&rng, file, first);
+    for (size_t left = below(&rng, 6); left > 0; left--) {
+        if (once_in(&rng, 2)) {
+            at = put_request(at, &number);
+        } else {
+            size_t next = put_record(at, make_line(&rng, line));
+            number += next > at;
+            at = next;
+        }
+    }
+    size_t distance = at - first + (once_in(&rng, 16) ? range(&rng, 0, 2) - 1 : 0);
+    number += once_in(&rng, 16) ? range(&rng, 0, 2) - 1 : 0;
+    for (int i = 0; i < 4; i++) {
+        file[at + i] = (uint8_t)(distance >> (24 - 8 * i));
+        file[at + 4 + i] = (uint8_t)(number >> (24 - 8 * i));
+    }
+    at += 8;
+    if (once_in(&rng, 12))
+        file[below(&rng, at)] ^= (uint8_t)(1 << below(&rng, 8));
+    return once_in(&rng, 16) ? below(&rng, at) : at;
+}
+
+/* A recording replayed on a bench with anything on it, and its transcript. */
+static void check_replay(void)
+{
+    size_t length = make_recording(), first[BG_FIRST] = {0, 0};
+    bool whole = bg_first_record(file, length, first) == 0;
+    size_t numbers = BG_ANSWER * first[BG_FIRST_NUMBER] + range(&rng, 0, 3);
+    numbers -= once_in(&rng, 6) && numbers > 0;
+    numbers = numbers < BG_ANSWER * ANSWERS_MAX ? numbers : BG_ANSWER * ANSWERS_MAX;
+    lend_numbers();
+    lend(&memory, BG_BENCH_MEMORY);
+    lend(&packet_buffer, BG_BENCH_BUFFER);
+    lend(&reply_buffer, BG_BENCH_BUFFER);
+    lend(&answer_buffer, numbers * sizeof(uint32_t));
+    uint32_t said[2];
+    for (int i = 0; i < 2; i++)
+        said[i] = (i == 0 ? bg_replay : plain_replay)(file, length, memory.of[i], lent[i].record, lent[i].tag, lent[i].reply,
+                                                      packet_buffer.of[i], reply_buffer.of[i], (uint32_t *)answer_buffer.of[i], numbers,
+                                                      &lent[i].count);
+    hold_numbers("replay", said[0], said[1]);
+    hold("replay", &memory);
+    hold("replay", &packet_buffer);
+    hold("replay", &reply_buffer);
+    hold("replay", &answer_buffer);
+    if (said[0] != 0)
+        met(whole ? REPLAY_12_ANSWERS : REPLAY_12_FILE);
+    else
+        met(lent[0].count == 0 ? REPLAY_NONE : lent[0].record[0] != 0 ? REPLAY_OPEN : REPLAY_CLOSED);
+}
+
+/* The transcript of any numbers, with an output that may be too short. */
+static void check_transcript(void)
+{
+    size_t count = below(&rng, 13), numbers = BG_ANSWER * count + range(&rng, 0, 2);
+    lend_numbers();
+    lend(&answer_buffer, numbers * sizeof(uint32_t));
+    uint32_t *answers = (uint32_t *)answer_buffer.of[0];
+    for (size_t i = 0; i < numbers; i++)
+        answers[i] = i % BG_ANSWER == 1 ? (uint32_t)below(&rng, 3) : (uint32_t)number(&rng);
+    memcpy(answer_buffer.of[1], answers, numbers * sizeof *answers);
+    lent[0].record[0] = lent[1].record[0] = (uint32_t)below(&rng, 3);
+    lent[0].record[2] = lent[1].record[2] = (uint32_t)number(&rng);
+    bool few = once_in(&rng, 8);
+    if (few)
+        count = once_in(&rng, 2) ? count + 1 : (size_t)number(&rng) + numbers;
+    lend(&out_buffer, below(&rng, 43 * (numbers / BG_ANSWER) + 20));
+    uint32_t said[2];
+    for (int i = 0; i < 2; i++)
+        said[i] = (i == 0 ? bg_write_transcript : plain_write_transcript)((const uint32_t *)answer_buffer.of[i], numbers, count,
+                                                                          lent[i].record, out_buffer.of[i], out_buffer.length,
+                                                                          &lent[i].count);
+    hold_numbers("write_transcript", said[0], said[1]);
+    hold("write_transcript", &out_buffer);
+    hold("write_transcript", &answer_buffer);
+    if (said[0] != 0)
+        met(few && numbers / BG_ANSWER < count ? TEXT_12_ANSWERS : TEXT_12_ROOM);
+    else
+        met(lent[0].record[0] == 0 ? TEXT_NONE : TEXT_PLACE);
+}
+
 /* The checks; one that stands more than once is made as often. */
 static void (*const checks[])(void) = {
     check_step, check_lumps, check_line, check_line, check_packet, check_send, check_configure, check_request, check_request,
     check_request, check_history, check_echo, check_upload, check_upload, check_reply, check_reply, check_reply, check_sequence,
+    check_replay, check_transcript,
 };
 
 /* Makes the rounds and prints what was met. */
@@ -638,6 +757,7 @@ int main(int argc, char **argv)
     reply_buffer = twin_of(PACKET_MAX);
     out_buffer = twin_of(PACKET_MAX + 128);
     held_buffer = twin_of(BG_HELD);
+    answer_buffer = twin_of(BG_ANSWER * ANSWERS_MAX * sizeof(uint32_t));
     for (round_number = 0; round_number < rounds; round_number++) {
         rng = rng_of(seed * 1000003 + round_number);
         checks[below(&rng, sizeof checks / sizeof *checks)]();

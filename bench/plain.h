@@ -38,4 +38,12 @@ uint32_t plain_read_reply(const uint8_t *packet, size_t packet_len, uint32_t rep
 
 uint8_t plain_next_sequence(uint8_t sequence);
 
+/* plain_recording.c */
+
+uint32_t plain_replay(const uint8_t *file, size_t file_len, uint8_t memory[8192], uint32_t session[4], uint8_t tag[32], uint32_t reader[4],
+                      uint8_t packet[1024], uint8_t reply[1024], uint32_t *answers, size_t answers_len, size_t *count);
+
+uint32_t plain_write_transcript(const uint32_t *answers, size_t answers_len, size_t count, const uint32_t session[4], uint8_t *out,
+                                size_t out_len, size_t *text_len);
+
 #endif

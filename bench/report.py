@@ -34,6 +34,7 @@ PATHS = {
     "list60000": "image lists, bodies of 60,000",
     "frames": "an upload's frames alone",
     "upload": "whole upload",
+    "replay": "a recording replayed",
 }
 # The paths whose calls are counted too.
 CALLS = ["collect256", "collect64", "collect16", "collect1", "reply", "echo", "pairs", "handle", "chunks", "unknown", "worst",
@@ -299,6 +300,9 @@ What the last frame of each body of 65,533 bytes adds, which is where the CRC is
 - Whole upload: requests of 480 data bytes, each written, sent, read, handled, and its reply sent, read and read as a
   reply; a byte is a byte of the image. In the end the slot is compared with the image. "Frames alone": the same
   requests and replies, written beforehand, sent and read.
+- A recording replayed: 49,152 bytes, as many as the replay program takes, with the lines of uploads that fill the slot of
+  4,096 bytes one after the other, in requests of 480 data bytes; replayed once, and the transcript written. A byte is a
+  byte of the recording.
 - Instructions: one round under qemu, counted by a plugin (`bench/count.c`) only inside the measured function, so that
   start-up, setting up and digests are out. The drivers' loops (some instructions a line or packet), memcpy, and malloc
   in the Rust program are in. The counts of memcpy and memset depend on the features of the processor that qemu shows,

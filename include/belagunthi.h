@@ -19,19 +19,24 @@
  * packet buffer from line to line (see bg_take_line), and of the collector's record and its bytes from step to step (see bg_collect).
  *
  * To link: the archive libport.a is code for x86-64 Linux, today for no other processor, and needs memcpy and memset of the C library, and nothing
- * else. No call takes more than BG_STACK bytes of stack; measured on x86-64, without what memcpy and memset take:
- *   bg_collect         408
- *   bg_take_line       976
- *   bg_send_frame      768
- *   bg_configure         8
- *   bg_handle          592
- *   bg_write_echo        8
- *   bg_write_reset       8
- *   bg_write_erase       8
- *   bg_write_upload    200
- *   bg_most_data         8
- *   bg_read_reply      344
- *   bg_next_sequence     8
+ * else. No call takes more than BG_STACK bytes of stack, but bg_replay, which takes at most BG_BENCH_STACK; measured on x86-64,
+ * without what memcpy and memset take:
+ *   bg_collect           408
+ *   bg_take_line        1024
+ *   bg_send_frame        768
+ *   bg_configure           8
+ *   bg_handle            640
+ *   bg_write_echo          8
+ *   bg_write_reset         8
+ *   bg_write_erase         8
+ *   bg_write_upload      200
+ *   bg_most_data           8
+ *   bg_read_reply        376
+ *   bg_next_sequence       8
+ *   bg_first_record       56
+ *   bg_next_record         0
+ *   bg_replay           1344
+ *   bg_write_transcript  136
  */
 #ifndef BELAGUNTHI_H
 #define BELAGUNTHI_H
@@ -44,11 +49,12 @@ extern "C" {
 #endif
 
 /* The version: major * 10000 + minor * 100 + patch. The major number changes with a promise that a caller may rely on, the minor with a new name. */
-#define BG_VERSION 30000
-#define BG_VERSION_TEXT "3.0.0"
+#define BG_VERSION 30100
+#define BG_VERSION_TEXT "3.1.0"
 
-/* The most stack that a call takes, in bytes. */
+/* The most stack that a call takes, in bytes; and bg_replay, which no controller and no host needs. */
 #define BG_STACK 1024
+#define BG_BENCH_STACK 1536
 
 /* What a call returns: done, or the refusal of this number. */
 enum bg_result {
@@ -64,7 +70,7 @@ enum bg_result {
   BG_CRC_DIFFERS = 9,      /* the CRC differs */
   BG_WRONG_KIND = 10,      /* not a packet of the kind asked for: a request, or a well-formed reply */
   BG_REPLY_TOO_SHORT = 11, /* the reply buffer is under 32 bytes */
-  BG_UNSENDABLE = 12,      /* what the sender or a writer cannot send; a lump over 256 bytes */
+  BG_UNSENDABLE = 12,      /* what the sender or a writer cannot send; a lump over 256 bytes; no recording */
   BG_NO_SUCH_FRAME = 13    /* the frame number is not below the frame count */
 };
 
@@ -118,6 +124,29 @@ enum bg_reply_number {
   BG_REPLY_TEXT_START,
   BG_REPLY_TEXT_LENGTH
 };
+
+/*
+ * A recording of the line: a preface of any bytes, then records, then a trailer of 8 bytes: the distance from the trailer's first byte back to the first
+ * record, then the number of records, 4 bytes each, the high one first. A record is one byte, 3E (hexadecimal) for a line to the controller or 3C for one
+ * from it, the line's length in two bytes, the high one first, and the line: any bytes, none too, with an 0A or without. A file is a recording where that
+ * many records begin there, and the last ends where the trailer begins; nothing else points to a record, and the preface may look like anything.
+ */
+#define BG_FIRST 2
+enum bg_first_number { BG_FIRST_PLACE, BG_FIRST_NUMBER };
+#define BG_RECORD 3
+enum bg_record_number { BG_RECORD_KIND, BG_RECORD_START, BG_RECORD_LENGTH };
+enum bg_record_kind { BG_RECORDS_OVER = 0, BG_FROM_CONTROLLER = 0x3C, BG_TO_CONTROLLER = 0x3E };
+
+/* The bench that a recording is replayed on: its memory, of which the first half is slot 0 and the second the upload slot; its packet and reply buffers. */
+#define BG_BENCH_MEMORY 8192
+#define BG_BENCH_BUFFER 1024
+
+/*
+ * An answer of a replay in three numbers: { the refusal of the line or of its packet or 0, 1 where the line completed a packet that was replied to, else 0,
+ * the reply's rc or 0 }. The rc is that of bg_read_reply, so 0 where the reply has none; and 0 for a list of images.
+ */
+#define BG_ANSWER 3
+enum bg_answer_number { BG_ANSWER_REFUSAL, BG_ANSWER_REPLIED, BG_ANSWER_RC };
 
 /* The longest lump; the longest line, which is also the shortest output that bg_send_frame takes; the longest packet; the shortest reply buffer. */
 #define BG_LUMP 256
@@ -241,6 +270,43 @@ uint32_t bg_read_reply(const uint8_t *packet, size_t packet_len, uint32_t reply[
 
 /* The sequence number after this one: 0 after 255. It refuses nothing. */
 uint8_t bg_next_sequence(uint8_t sequence);
+
+/*
+ * Says where the first record of a file stands. Returns 0 with first = { its place in the file, the number of records }; the first record's place is that
+ * of the trailer where there are none. Refuses 12 where the file is no recording, and first stays.
+ */
+uint32_t bg_first_record(const uint8_t *file, size_t file_len, size_t first[BG_FIRST]);
+
+/*
+ * Reads the record at a place of a file, which is a recording or not. Returns 0 with record = { 3E or 3C (hexadecimal), where its line starts in the file,
+ * the line's length }; the next record stands behind the line. Returns 0 with record = { 0, at, 0 } where the file's last 8 bytes begin there: the records
+ * are over. Refuses 12, and record stays: a file under 8 bytes, another first byte, or a record that does not end before the last 8 bytes.
+ * From the first record on, each time behind the last line, it gives the records of a recording in order, as many as bg_first_record says, and then that
+ * they are over.
+ */
+uint32_t bg_next_record(const uint8_t *file, size_t file_len, size_t at, size_t record[BG_RECORD]);
+
+/*
+ * Replays a recording: each line to the controller goes, in order, to bg_take_line, and each packet that this completes to bg_handle with the layout
+ * { 0, 4096, 4096, 4096 }; lines from the controller are passed over. All begins anew: the whole memory is set to 255, session record and tag are closed,
+ * the reader's record is idle; the two buffers are taken as they are lent.
+ * Returns 0 with *count the number of lines to the controller. The answer to the line of number k, from 0, stands in the three numbers from 3 * k on (see
+ * BG_ANSWER), and the numbers behind the last answer stay. Memory, session record, tag, reader's record and both buffers are as those calls left them. A
+ * reset that is asked ends the session, and the replay goes on.
+ * Refuses 12, and everything stays: the file is no recording, or answers_len is under 3 times its number of records, those from the controller counted.
+ */
+uint32_t bg_replay(const uint8_t *file, size_t file_len, uint8_t memory[BG_BENCH_MEMORY], uint32_t session[BG_SESSION], uint8_t tag[BG_TAG],
+                   uint32_t reader[BG_READER], uint8_t packet[BG_BENCH_BUFFER], uint8_t reply[BG_BENCH_BUFFER], uint32_t *answers,
+                   size_t answers_len, size_t *count);
+
+/*
+ * Writes the text of a replay to the start of out, whose other bytes stay: for each of the first count answers a line of its number from 0, the refusal or
+ * 0, and the rc, or '-' where there is no reply, with one blank between; then "end" and the session's place, or "end none" where it is closed. Numbers
+ * are in decimal, and each line ends in 0A, the last too. Returns 0 with *text_len the text's length. Refuses 12, and out and *text_len stay: answers_len
+ * under 3 * count, or an output shorter than the text. A line has at most 43 bytes.
+ */
+uint32_t bg_write_transcript(const uint32_t *answers, size_t answers_len, size_t count, const uint32_t session[BG_SESSION], uint8_t *out, size_t out_len,
+                             size_t *text_len);
 
 #ifdef __cplusplus
 }

@@ -623,7 +623,7 @@ static void read_options(struct options *o, int argc, char **argv)
             break;
         case 'h':
             help();
-            exit(END_DONE);
+            end_printed(END_DONE);
         case 'v':
             end_version();
         default:

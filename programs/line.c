@@ -9,6 +9,7 @@
 #include <stdarg.h>
 #include <stdio.h>
 #include <stdlib.h>
+#include <string.h>
 #include <time.h>
 #include <unistd.h>
 
@@ -265,11 +266,21 @@ void end_usage(const char *format, ...)
     exit(END_USAGE);
 }
 
+/* Ends the program with a code after all that it printed, or for file trouble where that could not be written. */
+void end_printed(int code)
+{
+    if (ferror(stdout) != 0 || fflush(stdout) != 0) {
+        fprintf(stderr, "%s: standard output could not be written: %s\n", program, strerror(errno));
+        exit(END_FILE);
+    }
+    exit(code);
+}
+
 /* Ends the program after its version. */
 void end_version(void)
 {
     printf("%s (Belagunthi) %s\n", program, BG_VERSION_TEXT);
-    exit(END_DONE);
+    end_printed(END_DONE);
 }
 
 /* Reads a number from least to most that an option was given, or ends the program for bad usage. */
@@ -311,7 +322,7 @@ const char *refusal_words(uint32_t refusal)
         "the CRC differs",
         "not a packet of the kind asked for",
         "the reply buffer is under 32 bytes",
-        "what the sender or a writer cannot send; a lump over 256 bytes",
+        "what the sender or a writer cannot send; a lump over 256 bytes; no recording",
         "the frame number is not below the frame count",
     };
 

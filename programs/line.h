@@ -12,7 +12,7 @@
 /* No wait is longer without a look at stop_signal. */
 #define SLICE_MS 250
 
-/* The exit codes that both programs have; each has its own besides. */
+/* The exit codes that the programs share; each has its own besides. */
 enum { END_DONE = 0, END_USAGE = 2, END_FILE = 3, END_PORT = 4, END_REFUSED = 7 };
 
 /* What became of bytes that were to be written. */
@@ -70,6 +70,9 @@ uint64_t speed_given(const char *option, const char *text);
 
 /* Ends the program for bad usage, with one line on standard error. */
 void end_usage(const char *format, ...) __attribute__((format(printf, 1, 2), noreturn));
+
+/* Ends the program with a code after all that it printed, or for file trouble where that could not be written. */
+void end_printed(int code) __attribute__((noreturn));
 
 /* Ends the program after its version. */
 void end_version(void) __attribute__((noreturn));

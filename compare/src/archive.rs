@@ -67,6 +67,30 @@ extern "C" {
     fn bg_read_reply(packet: *const u8, packet_len: usize, reply: *mut u32) -> u32;
     fn bg_next_sequence(sequence: u8) -> u8;
     fn bg_most_data(out_len: usize, off: u64, length: u64, tag_len: usize) -> u32;
+    fn bg_first_record(file: *const u8, file_len: usize, first: *mut usize) -> u32;
+    fn bg_next_record(file: *const u8, file_len: usize, at: usize, record: *mut usize) -> u32;
+    fn bg_replay(
+        file: *const u8,
+        file_len: usize,
+        memory: *mut u8,
+        session: *mut u32,
+        tag: *mut u8,
+        reader: *mut u32,
+        packet: *mut u8,
+        reply: *mut u8,
+        answers: *mut u32,
+        answers_len: usize,
+        count: *mut usize,
+    ) -> u32;
+    fn bg_write_transcript(
+        answers: *const u32,
+        answers_len: usize,
+        count: usize,
+        session: *const u32,
+        out: *mut u8,
+        out_len: usize,
+        text_len: *mut usize,
+    ) -> u32;
 }
 
 /// How many guard elements stand on each side of what is lent.
@@ -198,13 +222,15 @@ impl<T: Element> Lent<T> {
 pub fn call(call: &Call, place: Place) -> Outcome {
     let shape = call.kind.shape();
     // The out-parameters' first values are free, so the last bit of the last one decides about null.
-    let null = call.words.last().map_or(false, |word| word & 1 == 1);
-    let mut at = 0;
-    let mut words: Vec<Lent<u32>> = Vec::with_capacity(2);
-    for (_, length) in shape.words {
-        words.push(Lent::new(&call.words[at..at + length], place, false));
-        at += length;
-    }
+    let last = call.sizes.last().copied().or_else(|| call.words.last().map(|word| *word as usize));
+    let null = last.map_or(false, |last| last & 1 == 1);
+    let arrays = shape.arrays(call.words.len());
+    let mut words: Vec<Lent<u32>> = arrays
+        .iter()
+        .map(|(_, range, with_length)| Lent::new(&call.words[range.clone()], place, null && *with_length))
+        .collect();
+    let mut sizes = shape.sizes.map(|_| Lent::new(&call.sizes, place, false));
+    let sizes_pointer = sizes.as_mut().map_or(std::ptr::null_mut(), Lent::pointer);
     let mut buffers: Vec<Lent<u8>> =
         call.buffers.iter().map(|buffer| Lent::new(buffer, place, null)).collect();
     let numbers = &call.numbers;
@@ -287,14 +313,43 @@ pub fn call(call: &Call, place: Place) -> Outcome {
             (Kind::MostData, ..) => {
                 bg_most_data(numbers[0] as usize, numbers[1], numbers[2], numbers[3] as usize)
             }
+            (Kind::FirstRecord, [], [file]) => bg_first_record(file.pointer(), file.length, sizes_pointer),
+            (Kind::NextRecord, [], [file]) => {
+                bg_next_record(file.pointer(), file.length, numbers[0] as usize, sizes_pointer)
+            }
+            (Kind::Replay, [session, reader, answers], [file, memory, tag, packet, reply]) => bg_replay(
+                file.pointer(),
+                file.length,
+                memory.pointer(),
+                session.pointer(),
+                tag.pointer(),
+                reader.pointer(),
+                packet.pointer(),
+                reply.pointer(),
+                answers.pointer(),
+                answers.length,
+                sizes_pointer,
+            ),
+            (Kind::WriteTranscript, [session, answers], [out]) => bg_write_transcript(
+                answers.pointer(),
+                answers.length,
+                numbers[0] as usize,
+                session.pointer(),
+                out.pointer(),
+                out.length,
+                sizes_pointer,
+            ),
             _ => unreachable!("a call has the parameters of its shape"),
         }
     };
     let mut fault = None;
-    for (lent, (name, _)) in words.iter().zip(shape.words) {
+    for (lent, (name, ..)) in words.iter().zip(&arrays) {
         if !lent.kept() {
             fault = Some(format!("wrote outside {name}"));
         }
+    }
+    if let (Some(name), Some(false)) = (shape.sizes, sizes.as_ref().map(Lent::kept)) {
+        fault = Some(format!("wrote outside {name}"));
     }
     for (lent, name) in buffers.iter().zip(shape.buffers) {
         if !lent.kept() {
@@ -310,6 +365,7 @@ pub fn call(call: &Call, place: Place) -> Outcome {
     Outcome {
         returned,
         words: words.into_iter().flat_map(Lent::content).collect(),
+        sizes: sizes.map_or(vec![], Lent::content),
         buffers: buffers.into_iter().map(Lent::content).collect(),
         fault,
     }

@@ -2,6 +2,7 @@
 
 mod frames;
 mod reads;
+mod recordings;
 mod regions;
 mod steps;
 mod sums;
@@ -47,7 +48,10 @@ pub fn all() -> Vec<Name> {
     let images = reads::VALID.names().chain(reads::SPOILT.names());
     let reads = reads::READS.names().chain(images).chain(reads::REPLIES.names());
     let lines = steps::STEPS.names().chain(sums::SUMS.names()).chain(frames::FRAMES.names());
-    let mut all: Vec<(usize, Name)> = lines.chain(configured).chain(handled).chain(reads).collect();
+    let files = recordings::FILES.names().chain(recordings::RECORDS.names());
+    let replays = recordings::REPLAYS.names().chain(recordings::TRANSCRIPTS.names());
+    let mut all: Vec<(usize, Name)> =
+        lines.chain(configured).chain(handled).chain(reads).chain(files).chain(replays).collect();
     all.sort();
     all.into_iter().map(|(_, name)| name).collect()
 }
@@ -67,6 +71,10 @@ pub fn add(call: &Call, outcome: &Outcome, list: &mut Vec<usize>) {
             reads::add(call, outcome, list);
         }
         Kind::ReadReply => reads::add_reply(call, outcome, list),
+        Kind::FirstRecord => recordings::add_file(call, outcome, list),
+        Kind::NextRecord => recordings::add_record(call, outcome, list),
+        Kind::Replay => recordings::add_replay(call, outcome, list),
+        Kind::WriteTranscript => recordings::add_transcript(call, outcome, list),
         _ => {}
     }
 }

@@ -22,17 +22,22 @@ pub fn body_length(rng: &mut Rng) -> usize {
     }
 }
 
+/// The lines of a body, as the sender cuts it.
+pub fn sent(body: &[u8]) -> Vec<Vec<u8>> {
+    let mut out = [0; 127];
+    let frame = |k| {
+        let (length, _) = sender::send_frame(body, k, &mut out).expect("a body and a frame of it");
+        out[..length].to_vec()
+    };
+    (0..sender::cut(body.len()).len()).map(frame).collect()
+}
+
 /// The lines of a body: as the sender cuts it, or cut anywhere after total.
-fn cut(rng: &mut Rng, body: &[u8]) -> Vec<Vec<u8>> {
-    let mut lines = Vec::new();
+pub fn cut(rng: &mut Rng, body: &[u8]) -> Vec<Vec<u8>> {
     if rng.once_in(2) {
-        let mut out = [0; 127];
-        for k in 0..sender::cut(body.len()).len() {
-            let (length, _) = sender::send_frame(body, k, &mut out).expect("a body and a frame of it");
-            lines.push(out[..length].to_vec());
-        }
-        return lines;
+        return sent(body);
     }
+    let mut lines = Vec::new();
     let total = (body.len() as u16 + 2).to_be_bytes();
     let crc = crc::crc16(body).to_be_bytes();
     let raw = [&total[..], body, &crc].concat();
@@ -50,7 +55,7 @@ fn cut(rng: &mut Rng, body: &[u8]) -> Vec<Vec<u8>> {
 }
 
 /// A text that is not well-formed Base64, or nearly so.
-fn bad_text(rng: &mut Rng) -> Vec<u8> {
+pub fn bad_text(rng: &mut Rng) -> Vec<u8> {
     let texts: [&[u8]; 24] = [
         b"",
         b"A",
@@ -83,7 +88,7 @@ fn bad_text(rng: &mut Rng) -> Vec<u8> {
 }
 
 /// Damages a line in one of the ways that lines are damaged.
-fn damage(rng: &mut Rng, line: &mut Vec<u8>) {
+pub fn damage(rng: &mut Rng, line: &mut Vec<u8>) {
     let text = line.len().saturating_sub(3);
     match rng.below(12) {
         0 if text > 0 => {
@@ -143,7 +148,7 @@ fn damage(rng: &mut Rng, line: &mut Vec<u8>) {
 }
 
 /// A line that is not a frame's.
-fn noise(rng: &mut Rng) -> Vec<u8> {
+pub fn noise(rng: &mut Rng) -> Vec<u8> {
     match rng.below(5) {
         0 => b"uart:~$ \r\n".to_vec(),
         1 => {

@@ -12,6 +12,7 @@ mod lines;
 mod lumps;
 mod maps;
 mod paper;
+mod recordings;
 mod replies;
 mod requests;
 mod rng;
@@ -44,7 +45,7 @@ once in five thousand of N, or less than 1000 times where N is more than five mi
 type Generator = fn(&mut Harness, &mut Rng);
 
 /// The generators of random inputs, each with how often it is used.
-const GENERATORS: [(usize, Generator); 15] = [
+const GENERATORS: [(usize, Generator); 20] = [
     (150, lumps::single),
     (1, lumps::stream),
     (200, lines::single),
@@ -60,6 +61,11 @@ const GENERATORS: [(usize, Generator); 15] = [
     (80, writers::single),
     (110, replies::single),
     (1, exchange::run),
+    (30, recordings::files),
+    (90, recordings::small_files),
+    (90, recordings::replays),
+    (60, recordings::transcripts),
+    (1, recordings::by_hand),
 ];
 
 /// The number that follows an option.

@@ -450,12 +450,111 @@ fn vectors(harness: &mut Harness) {
     harness.expect(read_reply(nested, [5; 12]), |outcome| outcome.returned == 10);
 }
 
+/// A bench with something else than zeros on it.
+fn bench() -> Bench {
+    Bench {
+        memory: vec![0x11; 8192],
+        session: [9; 4],
+        tag: [9; 32],
+        reader: [9; 4],
+        packet: vec![0xEE; 1024],
+        reply: vec![0xDD; 1024],
+    }
+}
+
+/// A recording of lines to the controller.
+fn recording(lines: &[&[u8]]) -> Vec<u8> {
+    let mut file = Vec::new();
+    for line in lines {
+        file.push(0x3E);
+        file.extend_from_slice(&(line.len() as u16).to_be_bytes());
+        file.extend_from_slice(line);
+    }
+    let distance = file.len() as u32;
+    file.extend_from_slice(&distance.to_be_bytes());
+    file.extend_from_slice(&(lines.len() as u32).to_be_bytes());
+    file
+}
+
+/// Replays a file, and compares the transcript with a text, or with none where the file is no recording.
+fn transcript(harness: &mut Harness, file: Vec<u8>, text: Option<&str>) {
+    let records = file.len() / 3;
+    let mut left = Vec::new();
+    let mut count = 0;
+    harness.expect(replay(file, bench(), vec![77; 3 * records], 78), |outcome| {
+        left = outcome.words.clone();
+        count = outcome.sizes[0];
+        outcome.returned == if text.is_some() { 0 } else { 12 }
+    });
+    if let Some(text) = text {
+        let session = left[..4].try_into().unwrap();
+        let room = vec![0xEE; text.len()];
+        harness.expect(write_transcript(left[8..].to_vec(), count as u64, session, room, 77), |outcome| {
+            outcome.returned == 0 && outcome.sizes == [text.len()] && outcome.buffers[0] == text.as_bytes()
+        });
+    }
+}
+
+/// Both sides of each edge of a recording, its records and its replay.
+fn recordings(harness: &mut Harness) {
+    harness.kind("recordings: both sides of each edge");
+    let zeros = &sender::line([6, 9], &[0, 10, 0, 0, 0, 0, 0, 0, 0, 0, 0, 0])[..];
+    let file = recording(&[zeros]);
+    transcript(harness, file.clone(), Some("0 0 3\nend none\n"));
+    transcript(harness, recording(&[]), Some("end none\n"));
+    transcript(harness, vec![0; 7], None);
+    transcript(harness, vec![], None);
+    let framed = |packet: &[u8]| {
+        let mut out = [0; 127];
+        let (length, _) = sender::send_frame(packet, 0, &mut out).unwrap();
+        out[..length].to_vec()
+    };
+    let begun = framed(&upload(&[1, 2, 3], 0, 5, &[]));
+    let reset = framed(&packet(0, 5, &[0xA0]));
+    let no_request = framed(&[1, 0, 0, 0, 0, 0, 0, 0]);
+    transcript(harness, recording(&[&begun]), Some("0 0 0\nend 3\n"));
+    transcript(harness, recording(&[&begun, &reset]), Some("0 0 0\n1 0 0\nend none\n"));
+    transcript(harness, recording(&[&no_request, b"boot\n"]), Some("0 10 -\n1 3 -\nend none\n"));
+    let parts: [&[u8]; 2] = [b"\x06\x09AAoA\n", b"\x04\x14AAAAAAAAAAAA\n"];
+    transcript(harness, recording(&parts), Some("0 0 -\n1 0 3\nend none\n"));
+    // Each byte of the trailer one more or less makes it no recording.
+    for at in 22..30 {
+        for step in [1, 255] {
+            let mut file = file.clone();
+            file[at] = file[at].wrapping_add(step);
+            harness.expect(first_record(file.clone(), [77, 78]), |outcome| {
+                outcome.returned == 12 && outcome.sizes == [77, 78]
+            });
+            transcript(harness, file, None);
+        }
+    }
+    let preface = [&b"any"[..], &file].concat();
+    harness.expect(first_record(preface.clone(), [77, 78]), |outcome| outcome.sizes == [3, 1]);
+    for (at, record) in [(3, [0x3E, 6, 19]), (25, [0, 25, 0])] {
+        harness.expect(next_record(preface.clone(), at, [77; 3]), |outcome| {
+            outcome.returned == 0 && outcome.sizes == record
+        });
+    }
+    for at in [0, 2, 4, 24, 26, 32, 33, 34, u64::MAX - 2, u64::MAX] {
+        harness.expect(next_record(preface.clone(), at, [77; 3]), |outcome| {
+            outcome.returned == 12 && outcome.sizes == [77; 3]
+        });
+    }
+    let third = u64::MAX / 3;
+    for count in [3, third, third + 1, third + 2, 2 * third + 1, 1 << 63, u64::MAX] {
+        harness.expect(write_transcript(vec![1; 8], count, IDLE, vec![0xEE; 99], 77), |outcome| {
+            outcome.returned == 12 && outcome.sizes == [77] && outcome.buffers[0] == [0xEE; 99]
+        });
+    }
+}
+
 /// Compares all of them.
 pub fn run(harness: &mut Harness) {
     edges(harness);
     errors(harness);
     collector(harness);
     images(harness);
+    recordings(harness);
     vectors(harness);
     harness.kind("next sequence, every number");
     for sequence in 0..=255u8 {

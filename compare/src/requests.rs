@@ -166,7 +166,7 @@ fn upload(rng: &mut Rng, device: &Device) -> Vec<Pair> {
 }
 
 /// A request for a controller as it stands.
-fn request(rng: &mut Rng, device: &Device) -> Vec<u8> {
+pub fn request(rng: &mut Rng, device: &Device) -> Vec<u8> {
     let spoil = rng.once_in(4);
     let (mut op, mut group, mut command, pairs): (_, _, _, Vec<Pair>) = match rng.below(20) {
         0..=3 => {

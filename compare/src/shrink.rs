@@ -2,16 +2,18 @@
 
 use crate::call::{layout_of, Call, Kind};
 use second::cbor::{self, Value};
+use second::recording::{self, Record};
 use second::{base64, crc, sender};
 use std::time::{Duration, Instant};
 
-/// What is to become smaller: the bytes lent, then the bytes that are not 0, then the numbers.
+/// What is to become smaller: the bytes and words lent, then the bytes that are not 0, then the numbers.
 fn weight(call: &Call) -> (usize, usize, u128) {
-    let lengths = call.buffers.iter().map(Vec::len).sum();
+    let lengths = call.buffers.iter().map(Vec::len).sum::<usize>() + call.words.len();
     let bytes = call.buffers.iter().flatten().map(|byte| *byte as usize).sum();
     let numbers = call.numbers.iter().map(|number| *number as u128).sum::<u128>();
     let words = call.words.iter().map(|word| *word as u128).sum::<u128>();
-    (lengths, bytes, numbers + words)
+    let sizes = call.sizes.iter().map(|size| *size as u128).sum::<u128>();
+    (lengths, bytes, numbers + words + sizes)
 }
 
 /// Smaller numbers than a number.
@@ -290,12 +292,81 @@ fn from_the_start(call: &Call) -> Vec<Call> {
     vec![smaller]
 }
 
+/// A recording of records at a place of a file, with what stands before them.
+fn file_of(file: &[u8], preface: &[u8], records: &[Record]) -> Vec<u8> {
+    let mut bytes = preface.to_vec();
+    for record in records {
+        bytes.push(record.way as u8);
+        bytes.extend_from_slice(&(record.line.len() as u16).to_be_bytes());
+        bytes.extend_from_slice(&file[record.line.clone()]);
+    }
+    let distance = (bytes.len() - preface.len()) as u32;
+    bytes.extend_from_slice(&distance.to_be_bytes());
+    bytes.extend_from_slice(&(records.len() as u32).to_be_bytes());
+    bytes
+}
+
+/// Smaller recordings: without the preface, a record less, or a line cut short.
+fn recordings(file: &[u8]) -> Vec<Vec<u8>> {
+    let (first, records) = match recording::read(file) {
+        Ok(read) => read,
+        Err(_) => return Vec::new(),
+    };
+    let preface = &file[..first];
+    let mut list = vec![file_of(file, &[], &records)];
+    list.extend(cuts(preface).iter().map(|preface| file_of(file, preface, &records)));
+    for at in 0..records.len() {
+        let mut fewer = records.clone();
+        fewer.remove(at);
+        list.push(file_of(file, preface, &fewer));
+        for length in smaller(records[at].line.len() as u64) {
+            let mut shorter = records.clone();
+            shorter[at].line.end = shorter[at].line.start + length as usize;
+            list.push(file_of(file, preface, &shorter));
+        }
+    }
+    list
+}
+
+/// A record at the start of a file, with all that stands behind its place.
+fn from_the_place(call: &Call) -> Vec<Call> {
+    let mut smaller = call.clone();
+    smaller.buffers[0] = call.buffers[0].iter().skip(call.numbers[0] as usize).copied().collect();
+    smaller.numbers[0] = 0;
+    vec![smaller]
+}
+
+/// A call with fewer numbers for answers, also with as many answers less to be written, or without the first one.
+fn fewer_answers(call: &Call) -> Vec<Call> {
+    let others = if call.kind == Kind::Replay { 8 } else { 4 };
+    let numbers = call.words.len() - others;
+    let mut list = Vec::new();
+    if call.kind == Kind::WriteTranscript && numbers >= 3 && call.numbers[0] > 0 {
+        let mut fewer = call.clone();
+        fewer.words.drain(others..others + 3);
+        fewer.numbers[0] -= 1;
+        list.push(fewer);
+    }
+    for length in smaller(numbers as u64) {
+        let mut fewer = call.clone();
+        fewer.words.truncate(others + length as usize);
+        list.push(fewer.clone());
+        if call.kind == Kind::WriteTranscript {
+            fewer.numbers[0] = call.numbers[0].saturating_sub((numbers as u64 - length) / 3);
+            list.push(fewer);
+        }
+    }
+    list
+}
+
 /// Calls that are somewhat smaller than a call.
 fn candidates(call: &Call) -> Vec<Call> {
     let mut list = match call.kind {
         Kind::Collect => from_the_start(call),
         Kind::TakeLine => completing(call),
         Kind::Handle => [together(call), with_slots(call)].concat(),
+        Kind::NextRecord => from_the_place(call),
+        Kind::Replay | Kind::WriteTranscript => fewer_answers(call),
         _ => Vec::new(),
     };
     let mut with_buffer = |i: usize, buffer: Vec<u8>| {
@@ -308,6 +379,9 @@ fn candidates(call: &Call) -> Vec<Call> {
             (Kind::TakeLine, 0) => lines(buffer).into_iter().for_each(|line| with_buffer(i, line)),
             (Kind::Handle, 2) | (Kind::ReadReply, 0) => {
                 packets(buffer).into_iter().for_each(|packet| with_buffer(i, packet))
+            }
+            (Kind::FirstRecord | Kind::NextRecord | Kind::Replay, 0) => {
+                recordings(buffer).into_iter().for_each(|file| with_buffer(i, file))
             }
             _ => {}
         }
@@ -327,6 +401,13 @@ fn candidates(call: &Call) -> Vec<Call> {
         for word in smaller(*word as u64) {
             let mut smaller = call.clone();
             smaller.words[i] = word as u32;
+            list.push(smaller);
+        }
+    }
+    for (i, size) in call.sizes.iter().enumerate() {
+        for size in smaller(*size as u64) {
+            let mut smaller = call.clone();
+            smaller.sizes[i] = size as usize;
             list.push(smaller);
         }
     }

@@ -474,6 +474,66 @@ fn most(harness: &mut Harness) {
     }
 }
 
+/// Every first byte, distance, number, place and length of small files.
+fn files(harness: &mut Harness, rng: &mut Rng) {
+    harness.kind("recordings: every small file, distance, number and place");
+    let two = b"\x3E\x00\x02ab\x3C\x00\x01c";
+    let with_trailer = |before: &[u8], distance: u32, number: u32| {
+        [before, &distance.to_be_bytes(), &number.to_be_bytes()].concat()
+    };
+    let mut ask = |file: &[u8], place: u64| {
+        let free = [rng.next() as usize, rng.next() as usize, rng.next() as usize];
+        harness.check(first_record(file.to_vec(), [free[0], free[1]]));
+        harness.check(next_record(file.to_vec(), place, free));
+    };
+    for at in 0..two.len() {
+        for byte in 0..=255 {
+            let mut before = two.to_vec();
+            before[at] = byte;
+            let file = with_trailer(&before, 9, 2);
+            ask(&file, if at < 5 { 0 } else { 5 });
+        }
+    }
+    for distance in (0..=20).chain([255, 256, 9 << 8, 9 << 16, 9 << 24, u32::MAX]) {
+        for number in (0..=4).chain([256, 2 << 8, 2 << 16, 2 << 24, u32::MAX]) {
+            ask(&with_trailer(two, distance, number), distance as u64);
+        }
+    }
+    let whole = with_trailer(&[&b"pre"[..], two].concat(), 9, 2);
+    for length in 0..=whole.len() {
+        for place in (0..=whole.len() as u64 + 1).chain([1 << 32, 1 << 63, u64::MAX - 2, u64::MAX]) {
+            ask(&whole[..length], place);
+        }
+    }
+}
+
+/// Every room for answers and every output of a small transcript; every number of digits.
+fn transcripts(harness: &mut Harness, rng: &mut Rng) {
+    harness.kind("recordings: every room of a transcript, every number of digits");
+    for numbers in 0..=13 {
+        for count in (0..=5).chain([u64::MAX / 3, u64::MAX / 3 + 1, u64::MAX]) {
+            for room in 0..=60 {
+                let answers: Vec<u32> = (0..numbers).map(|number| number % 3).collect();
+                let (session, out) = ([(room & 1) as u32, 0, 7, 0], rng.bytes(room));
+                harness.check(write_transcript(answers, count, session, out, rng.next() as usize));
+            }
+        }
+    }
+    let powers = (0..10).map(|power| 10u32.pow(power)).chain([u32::MAX]);
+    for number in powers.flat_map(|power| [power - 1, power, power.wrapping_add(1)]) {
+        for answer in [[number, 0, 0], [0, 1, number], [number, number, number]] {
+            for open in [0, 1, number] {
+                let (session, out) = ([open, number, number, number], rng.bytes(60));
+                harness.check(write_transcript(answer.to_vec(), 1, session, out, rng.next() as usize));
+            }
+        }
+    }
+    for count in [9, 10, 11, 99, 100, 101, 999, 1000, 1001, 9_999, 10_001, 100_001] {
+        let (answers, out) = (vec![0; 3 * count], vec![7; 12 * count + 20]);
+        harness.check(write_transcript(answers, count as u64, [0; 4], out, rng.next() as usize));
+    }
+}
+
 /// Compares all of them.
 pub fn run(harness: &mut Harness, rng: &mut Rng) {
     lumps(harness, rng);
@@ -484,4 +544,6 @@ pub fn run(harness: &mut Harness, rng: &mut Rng) {
     images(harness, rng);
     writers(harness, rng);
     most(harness);
+    files(harness, rng);
+    transcripts(harness, rng);
 }

@@ -13,6 +13,8 @@ pub mod images;
 pub mod packet;
 pub mod port;
 pub mod reader;
+pub mod recording;
 pub mod refusal;
+pub mod replay;
 pub mod sender;
 pub mod slot;

@@ -4,7 +4,8 @@
 use crate::collector::{self, Step};
 use crate::reader::{self, Taken};
 use crate::refusal::Refusal;
-use crate::{controller, host, sender, slot};
+use crate::replay::{self, Bench, BUFFER, MEMORY};
+use crate::{controller, host, recording, sender, slot};
 
 /// The number that a call returns, once its out-parameters are filled by `fill` where it was not refused.
 fn number<T>(answer: Result<T, Refusal>, fill: impl FnOnce(T)) -> u32 {
@@ -133,4 +134,48 @@ pub fn most_data(out: usize, off: u64, length: u64, tag: usize) -> u32 {
 /// The sequence number after this one.
 pub fn next_sequence(sequence: u8) -> u8 {
     host::next_sequence(sequence)
+}
+
+/// Finds a recording's first record; `first` is its place, and the number of records.
+pub fn first_record(file: &[u8], first: &mut [usize; 2]) -> u32 {
+    number(recording::read(file), |(place, records)| *first = [place, records.len()])
+}
+
+/// Reads the record at a place; `record` is its first byte, where its line starts and how long that is, or 0 and the place
+/// where the records are over.
+pub fn next_record(file: &[u8], at: usize, record: &mut [usize; 3]) -> u32 {
+    number(recording::next(file, at), |read| {
+        *record = match read {
+            Some(read) => [read.way as usize, read.line.start, read.line.len()],
+            None => [0, at, 0],
+        }
+    })
+}
+
+/// Replays a recording on what is lent; `count` is the number of answers.
+#[allow(clippy::too_many_arguments)]
+pub fn replay(
+    file: &[u8],
+    memory: &mut [u8; MEMORY],
+    session: &mut [u32; 4],
+    tag: &mut [u8; 32],
+    reader: &mut [u32; 4],
+    packet: &mut [u8; BUFFER],
+    reply: &mut [u8; BUFFER],
+    answers: &mut [u32],
+    count: &mut usize,
+) -> u32 {
+    let mut bench = Bench { memory, session, tag, reader, packet, reply };
+    number(replay::replay(file, &mut bench, answers), |answered| *count = answered)
+}
+
+/// Writes the transcript of a replay; `text_len` is its length.
+pub fn write_transcript(
+    answers: &[u32],
+    count: usize,
+    session: &[u32; 4],
+    out: &mut [u8],
+    text_len: &mut usize,
+) -> u32 {
+    number(replay::write_transcript(answers, count, session, out), |length| *text_len = length)
 }

@@ -294,6 +294,82 @@ static void check_replies(void)
           "sequence numbers");
 }
 
+/* Reads a recording's records, replays it and writes the transcript; and what is refused. */
+static void check_recordings(void)
+{
+    const uint8_t recording[56] = "any\076\000\023\006\011AAoAAAAAAAAAAAAA\n\074\000\004boo\n\076\000\001\n"
+                                  "\000\000\000\041\000\000\000\003";
+    const uint8_t trailer[8] = {0, 0, 0, 0, 0, 0, 0, 0};
+    const uint32_t idle[4] = {0, 0, 0, 0};
+    uint8_t file[56];
+    uint8_t memory[BG_BENCH_MEMORY];
+    uint8_t packet[BG_BENCH_BUFFER];
+    uint8_t reply[BG_BENCH_BUFFER];
+    uint8_t tag[BG_TAG];
+    uint8_t out[32];
+    uint32_t session[BG_SESSION] = {9, 9, 9, 9};
+    uint32_t reader[BG_READER] = {9, 9, 9, 9};
+    uint32_t answers[3 * BG_ANSWER + 1];
+    size_t first[BG_FIRST] = {7, 7};
+    size_t record[BG_RECORD] = {7, 7, 7};
+    size_t count = 77;
+    size_t len = 77;
+
+    memcpy(file, recording, sizeof file);
+    check(bg_first_record(file, 7, first) == 12, "seven bytes are no recording: 12");
+    check(bg_first_record(NULL, 0, first) == 12, "no bytes are no recording: 12");
+    file[43] = 4;
+    check(bg_first_record(file, 44, first) == 12 && first[0] == 7, "a wrong number is refused 12, and all stays");
+    file[43] = 3;
+    check(bg_first_record(file, 44, first) == 0 && first[BG_FIRST_PLACE] == 3 && first[BG_FIRST_NUMBER] == 3,
+          "the first record stands behind the preface");
+    check(bg_first_record(trailer, 8, first) == 0 && first[0] == 0 && first[1] == 0, "a trailer alone is a recording");
+    check(bg_next_record(file, 44, 0, record) == 12 && record[0] == 7, "the preface is no record: 12, and all stays");
+    check(bg_next_record(file, 44, 3, record) == 0 && record[BG_RECORD_KIND] == BG_TO_CONTROLLER
+              && record[BG_RECORD_START] == 6 && record[BG_RECORD_LENGTH] == 19,
+          "a line to the controller");
+    check(bg_next_record(file, 44, 25, record) == 0 && record[0] == BG_FROM_CONTROLLER && record[1] == 28 && record[2] == 4,
+          "a line from the controller");
+    check(bg_next_record(file, 44, 36, record) == 0 && record[0] == BG_RECORDS_OVER && record[1] == 36 && record[2] == 0,
+          "behind the last the records are over");
+    check(bg_next_record(file, 44, 37, record) == 12 && bg_next_record(file, 44, SIZE_MAX, record) == 12,
+          "a place behind that is refused 12");
+
+    memset(memory, 7, sizeof memory);
+    memset(packet, 0xEE, sizeof packet);
+    memset(reply, 0xEE, sizeof reply);
+    memset(tag, 9, sizeof tag);
+    memset(answers, 0xEE, sizeof answers);
+    check(bg_replay(file, 44, memory, session, tag, reader, packet, reply, answers, 8, &count) == 12,
+          "answers for two of three records are refused 12");
+    check(memory[0] == 7 && session[0] == 9 && tag[0] == 9 && reader[0] == 9 && answers[0] == 0xEEEEEEEEu && count == 77,
+          "a refused replay leaves all");
+    check(bg_replay(file, 44, memory, session, tag, reader, packet, reply, answers, 9, &count) == 0 && count == 2,
+          "two lines to the controller");
+    check(answers[BG_ANSWER_REFUSAL] == 0 && answers[BG_ANSWER_REPLIED] == 1 && answers[BG_ANSWER_RC] == 3,
+          "the first is answered rc 3");
+    check(answers[3] == BG_NO_FRAME && answers[4] == 0 && answers[5] == 0 && answers[6] == 0xEEEEEEEEu,
+          "the second is refused 3, and the other numbers stay");
+    check(memory[0] == 255 && memory[BG_BENCH_MEMORY - 1] == 255 && same(session, idle, 16) && same(reader, idle, 16)
+              && tag[0] == 0,
+          "memory, session, tag and reader began anew");
+    check(packet[0] == 0 && packet[8] == 0xEE && reply[12] == 3 && reply[13] == 0xEE, "the buffers have packet and reply");
+
+    memset(out, 0xEE, sizeof out);
+    check(bg_write_transcript(answers, 5, 2, session, out, 32, &len) == 12, "answers for one of two are refused 12");
+    check(bg_write_transcript(answers, 9, SIZE_MAX / 3 + 1, session, out, 32, &len) == 12,
+          "a count whose three numbers are over 64 bits is refused 12");
+    check(bg_write_transcript(answers, 9, 2, session, out, 20, &len) == 12 && len == 77 && out[0] == 0xEE,
+          "an output too short is refused 12, and all stays");
+    check(bg_write_transcript(answers, 9, 2, session, out, 21, &len) == 0 && len == 21
+              && same(out, "0 0 3\n1 3 -\nend none\n\356", 22),
+          "a transcript");
+    session[BG_SESSION_OPEN] = 1;
+    session[BG_SESSION_PLACE] = 4096;
+    check(bg_write_transcript(NULL, 0, 0, session, out, 32, &len) == 0 && len == 9 && same(out, "end 4096\n", 9),
+          "the transcript of an open session");
+}
+
 /* Runs the checks. */
 int main(void)
 {
@@ -304,6 +380,7 @@ int main(void)
     check_list();
     check_writers();
     check_replies();
+    check_recordings();
     printf("%u checks, %u wrong\n", checks, bad);
     return bad == 0 ? 0 : 1;
 }

@@ -23,6 +23,9 @@ static uint8_t memory[8192], packet[1024], reply[1024], line[128], body[900], ou
 static uint8_t held[BG_HELD], lump[BG_LUMP];
 static uint32_t collector[BG_COLLECTOR], reader[4], session[4], numbers[12], size;
 static size_t lump_len, line_len, packet_len, reply_len;
+static uint8_t recording[4096];
+static uint32_t answers[300];
+static size_t recording_len, recorded, places[3], text_len;
 
 /* Runs the job on the painted stack. */
 static void enter(void) {
@@ -86,6 +89,67 @@ static void read_reply(void) {
     bg_read_reply(reply, reply_len, numbers);
 }
 
+static void first_record(void) {
+    bg_first_record(recording, recording_len, places);
+}
+
+static void next_record(void) {
+    bg_next_record(recording, recording_len, 0, places);
+}
+
+static void replay(void) {
+    bg_replay(recording, recording_len, memory, session, tag, reader, packet, reply, answers, 300, &text_len);
+}
+
+static void write_transcript(void) {
+    bg_write_transcript(answers, 300, 100, session, out, sizeof out, &text_len);
+}
+
+/* Adds the lines of a packet to the recording. */
+static void record_packet(const uint8_t *bytes, size_t len) {
+    uint32_t sent[2] = {0, 1};
+    for (uint32_t k = 0; k < sent[1]; k++) {
+        uint8_t *to = recording + recording_len;
+        if (bg_send_frame(bytes, len, k, to + 3, BG_LINE, sent) != 0) {
+            exit(2);
+        }
+        to[0] = BG_TO_CONTROLLER;
+        to[1] = 0;
+        to[2] = (uint8_t)sent[0];
+        recording_len += 3 + sent[0];
+        recorded++;
+    }
+}
+
+/* Makes a recording of an upload of an image, an echo, a reset, a state read, and lines that are refused. */
+static void make_recording(void) {
+    static const uint8_t refused[] = {BG_TO_CONTROLLER, 0, 7, 6, 9, 'A', 'A', '-', 'A', '\n', BG_FROM_CONTROLLER, 0, 0};
+    uint8_t uploaded[72] = {0};
+    uint8_t request[1024];
+    memcpy(uploaded, image, sizeof image);
+    if (bg_write_upload(1, uploaded, 72, 0, 72, tag, 32, request, sizeof request, &size) != 0) {
+        exit(2);
+    }
+    record_packet(request, size);
+    record_packet(state_read, sizeof state_read);
+    if (bg_write_echo(1, body, 900, request, sizeof request, &size) != 0) {
+        exit(2);
+    }
+    record_packet(request, size);
+    if (bg_write_reset(1, request, sizeof request, &size) != 0) {
+        exit(2);
+    }
+    record_packet(request, size);
+    memcpy(recording + recording_len, refused, sizeof refused);
+    recording_len += sizeof refused;
+    recorded += 2;
+    for (int i = 0; i < 4; i++) {
+        recording[recording_len + i] = (uint8_t)(recording_len >> (24 - 8 * i));
+        recording[recording_len + 4 + i] = (uint8_t)(recorded >> (24 - 8 * i));
+    }
+    recording_len += 8;
+}
+
 /* How many bytes of stack a job uses, beyond what is there without it. */
 static size_t used(void (*what)(void)) {
     size_t i = 0;
@@ -103,12 +167,12 @@ static size_t used(void (*what)(void)) {
     return sizeof stack - i;
 }
 
-/* Measures one call, prints it, and says whether it is within the limit. */
+/* Measures one call, prints it, and says whether it is within its limit. */
 static int within(const char *name, void (*what)(void), size_t base) {
     size_t n = used(what);
     n = n > base ? n - base : 0;
-    printf("stack: %-18s %5zu bytes\n", name, n);
-    return n <= BG_STACK;
+    printf("stack: %-19s %5zu bytes\n", name, n);
+    return n <= (what == replay ? BG_BENCH_STACK : BG_STACK);
 }
 
 int main(void) {
@@ -170,6 +234,20 @@ int main(void) {
     fine &= within("bg_write_erase", write_erase, base);
     fine &= within("bg_most_data", most_data, base);
     fine &= within("bg_next_sequence", next_sequence, base);
-    printf("stack: the limit is %d bytes: %s\n", BG_STACK, fine ? "kept" : "BROKEN");
+    make_recording();
+    fine &= within("bg_first_record", first_record, base);
+    fine &= within("bg_next_record", next_record, base);
+    if (places[0] != BG_TO_CONTROLLER) {
+        return 2;
+    }
+    fine &= within("bg_replay", replay, base);
+    if (text_len + 1 != recorded || answers[BG_ANSWER * (text_len - 1)] != BG_BAD_TEXT) {
+        return 2;
+    }
+    fine &= within("bg_write_transcript", write_transcript, base);
+    if (text_len < 100) {
+        return 2;
+    }
+    printf("stack: the limits are %d bytes, of bg_replay %d: %s\n", BG_STACK, BG_BENCH_STACK, fine ? "kept" : "BROKEN");
     return fine ? 0 : 1;
 }

@@ -16,9 +16,27 @@ const CHUNK: usize = 512;
 const BEFORE_LAST: usize = 65_000;
 const ERASES: usize = 4;
 const LINE: usize = 127;
+const RECORDING: usize = 49_152;
+const RECORDS: usize = RECORDING / 3;
+const TRAILER: usize = 8;
+const BENCH_MEMORY: usize = 8_192;
+const BENCH_SLOT: usize = BENCH_MEMORY / 2;
 
 /// The digest of no bytes.
 const NO_BYTES: u64 = 14_695_981_039_346_656_037;
+
+/// What a recording is replayed on, the answers, and the recording.
+struct Bench {
+    memory: Box<[u8; BENCH_MEMORY]>,
+    session: [u32; 4],
+    tag: [u8; 32],
+    reader: [u32; 4],
+    packet: [u8; PACKET],
+    reply: [u8; PACKET],
+    answers: Vec<u32>,
+    count: usize,
+    recording: Vec<u8>,
+}
 
 /// All that the paths read and write.
 struct World {
@@ -49,6 +67,7 @@ struct World {
     back: Vec<u8>,
     sum: u64,
     family: String,
+    bench: Bench,
 }
 
 /// What a path produced: its digest, and for one round the bytes and the calls.
@@ -270,6 +289,17 @@ fn run_upload(w: &mut World) {
     upload(w, true)
 }
 
+/// Replays the recording, and writes the transcript.
+fn run_replay(w: &mut World) {
+    let Bench { memory, session, tag, reader, packet, reply, answers, count, recording } = &mut w.bench;
+    if port::replay(recording, memory, session, tag, reader, packet, reply, answers, count) != 0 {
+        fail("a recording was refused");
+    }
+    if port::write_transcript(answers, *count, session, &mut w.out[..RECORDING], &mut w.out_len) != 0 {
+        fail("a transcript was refused");
+    }
+}
+
 /// Joins the lines of every body to one stream in the output, and clears them.
 fn make_stream(w: &mut World) {
     run_send(w);
@@ -290,6 +320,39 @@ fn make_upload(w: &mut World) {
 
 /// Nothing has to be there before.
 fn make_nothing(_: &mut World) {}
+
+/// Records the lines of uploads that fill the bench's slot, one after the other, until no line more has room; zeros stand before them.
+fn make_recording(w: &mut World) {
+    let mut request = [0; PACKET];
+    let mut line = [0; LINE];
+    let mut records = Vec::new();
+    let (mut number, mut off) = (0u32, 0);
+    'full: loop {
+        let data = &w.image[off..(off + DATA).min(BENCH_SLOT)];
+        let (mut length, mut sent, mut k) = (0, [0, 1], 0);
+        if port::write_upload(0, data, off as u64, BENCH_SLOT as u64, &[], &mut request, &mut length) != 0 {
+            fail("an upload was refused");
+        }
+        while k < sent[1] as usize {
+            if port::send_frame(&request[..length as usize], k, &mut line, &mut sent) != 0 {
+                fail("a frame was refused");
+            }
+            if records.len() + 3 + sent[0] as usize > RECORDING - TRAILER {
+                break 'full;
+            }
+            records.extend_from_slice(&[0x3E, 0, sent[0] as u8]);
+            records.extend_from_slice(&line[..sent[0] as usize]);
+            number += 1;
+            k += 1;
+        }
+        off = (off + data.len()) % BENCH_SLOT;
+    }
+    let recording = &mut w.bench.recording;
+    let distance = records.len() as u32;
+    records.extend_from_slice(&distance.to_be_bytes());
+    records.extend_from_slice(&number.to_be_bytes());
+    recording[RECORDING - records.len()..].copy_from_slice(&records);
+}
 
 /// Writes the echo requests.
 fn make_echoes(w: &mut World) {
@@ -526,6 +589,12 @@ fn uploaded(w: &World) -> Produced {
     Produced { digest: digest(NO_BYTES, &w.memory), bytes: w.image.len(), calls: w.request_count }
 }
 
+/// The transcript, and the bench's memory.
+fn replayed(w: &World) -> Produced {
+    let digest = digest(digest(NO_BYTES, &w.out[..w.out_len]), &w.bench.memory[..]);
+    Produced { digest, bytes: RECORDING, calls: w.bench.count }
+}
+
 /// One round: what is counted (bench/count.c).
 #[no_mangle]
 #[inline(never)]
@@ -562,6 +631,7 @@ fn path_of(name: &str) -> Path {
         "list60000" => (make_list, run_handle, listed, 60_000, 0, 0),
         "frames" => (make_upload, run_frames, passed, 0, 0, 0),
         "upload" => (make_nothing, run_upload, uploaded, 0, 0, 0),
+        "replay" => (make_recording, run_replay, replayed, 0, 0, 0),
         _ if name.starts_with("fill-") => (make_fill, run_handle, answered, 0, 0, 0),
         _ => fail("no such path"),
     }
@@ -605,6 +675,17 @@ fn set_up(size: usize, body_size: usize, leave_last: usize, lump_size: usize, fa
         back: touched(65536),
         sum: 0,
         family: family.to_string(),
+        bench: Bench {
+            memory: Box::new([0; BENCH_MEMORY]),
+            session: [0; 4],
+            tag: [0; 32],
+            reader: [0; 4],
+            packet: [0; PACKET],
+            reply: [0; PACKET],
+            answers: vec![1; 3 * RECORDS],
+            count: 0,
+            recording: touched(RECORDING),
+        },
     }
 }
 

@@ -16,12 +16,12 @@ use Rattle.slot.specs.Act.{done}
 use Rattle.slot.specs.History.{HeldIn, SentWhole}
 use Rattle.controller.specs.Handle.{Said, replied, resetAsked, refused, Taking, refusal, request, saidBy, actBy, taking, handled, handle}
 use Rattle.controller.specs.Doing.{asksReset}
-use Rattle.controller.specs.Calls as calling
-use Rattle.controller.specs.Calls.{actsOf}
-use Rattle.controller.proofs.Calls.{packet-demand, packet-unbroken, packet-same-memory}
+use Rattle.history.specs.Calls as calling
+use Rattle.history.specs.Calls.{actsOf}
+use Rattle.history.proofs.Calls.{packet-demand, packet-unbroken, packet-same-memory}
 use Rattle.records.specs.Records.{layoutOf, sessionOf, sessionNumbers}
 use Rattle.records.specs.Results.{handledBy}
-use Rattle.port.specs.Calls.{handledC, ConfiguredC, configuredBy, configuredC}
+use Rattle.packet_calls.specs.Calls.{handledC, ConfiguredC, configuredBy, configuredC}
 use Rattle.caller.specs.Handling.{
   Kept,
   stateIn,

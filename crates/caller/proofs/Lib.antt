@@ -3,3 +3,4 @@ pub mod Handling
 pub mod Lines
 pub mod Replies
 pub mod Lumps
+pub mod Bench

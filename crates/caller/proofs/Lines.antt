@@ -47,7 +47,7 @@ use Rattle.roundtrip.proofs.Passage.{round-trip}
 use Rattle.roundtrip.proofs.Sent.{frame-stands}
 use Rattle.records.specs.Records.{readerFrom, readerOf}
 use Rattle.records.specs.Results.{keepsRecord, TookLine, tookBy}
-use Rattle.port.specs.Calls.{tookLine, sentBy, sentFrame}
+use Rattle.line_calls.specs.Calls.{tookLine, sentBy, sentFrame}
 use Rattle.caller.specs.Records.{FirstByte}
 use Rattle.caller.specs.Lines.{saidOf, saying, taking, RowTakes, LineWritten, CallerRoundTrip}
 use Rattle.caller.proofs.Records.{reader-back}

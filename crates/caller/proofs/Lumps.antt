@@ -21,7 +21,7 @@ use Rattle.roundtrip.specs.Lumped.{hear}
 use Rattle.roundtrip.proofs.Lumped.{lumps-heard, lumped-round-trip}
 use Rattle.records.specs.Records.{collectorNumbers, collectorOf, readerOf}
 use Rattle.records.specs.Results.{stepResult, stepLength, TookLine}
-use Rattle.port.specs.Calls.{CollectedC, collectedBy, collectedC, tookLine}
+use Rattle.line_calls.specs.Calls.{CollectedC, collectedBy, collectedC, tookLine}
 use Rattle.caller.specs.Lines as row-lines
 use Rattle.caller.specs.Lumps.{Calls, over, lined, long, Lumped, none, next, CallerLumps, hearing, RowHears, CallerHears, CallerLumpedRoundTrip}
 use Rattle.caller.proofs.Records.{collector-back}

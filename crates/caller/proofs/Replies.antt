@@ -16,8 +16,8 @@ use Rattle.map.proofs.Sound.{map-run}
 use Rattle.rules.specs.Plan.{above, largest}
 use Rattle.replies.specs.Read.{Said, reply, refused, valuesOf, mapRead, isReply, readReply}
 use Rattle.records.specs.Records.{runStart, runLength, replyNumbers}
-use Rattle.port.specs.Calls.{readBy, readC}
-use Rattle.port.proofs.Reading.{run-inside}
+use Rattle.packet_calls.specs.Calls.{readBy, readC}
+use Rattle.widths.proofs.Reading.{run-inside}
 use Rattle.caller.specs.Replies.{TextInside}
 
 -- what was read of the packet p: a text that lies inside it, or a refusal with a number above 0

@@ -9,10 +9,10 @@ use lib.ListN.{length}
 use Rattle.session.specs.Session.{State, stateOf, closedIn}
 use Rattle.slot.specs.Act.{Act}
 use Rattle.slot.specs.History.{HeldIn, CutFrom, SentWhole}
-use Rattle.controller.specs.Calls.{Call, actsOf}
+use Rattle.history.specs.Calls.{Call, actsOf}
 use Rattle.records.specs.Records.{layoutOf, sessionOf}
 use Rattle.records.specs.Results.{HandledC}
-use Rattle.port.specs.Calls.{handledC, configuredC}
+use Rattle.packet_calls.specs.Calls.{handledC, configuredC}
 
 -- the arrays that the controller keeps from call to call
 pub record Kept : Type 0 where

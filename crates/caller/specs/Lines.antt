@@ -14,7 +14,7 @@ use Rattle.sender.specs.Sender.{frameCount, frameOf}
 use Rattle.roundtrip.specs.RoundTrip.{frames, answers, readBack}
 use Rattle.records.specs.Records.{readerOf}
 use Rattle.records.specs.Results.{TookLine}
-use Rattle.port.specs.Calls.{tookLine, sentFrame}
+use Rattle.line_calls.specs.Calls.{tookLine, sentFrame}
 
 -- what a result of bg_take_line and *body mean together
 unfoldable pub saidOf : ℕ → ℕ → Said

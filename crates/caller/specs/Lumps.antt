@@ -15,7 +15,7 @@ use Rattle.roundtrip.specs.RoundTrip.{frames, answers, readBack}
 use Rattle.roundtrip.specs.Lumped.{hear, linesIn, Whole}
 use Rattle.records.specs.Records.{collectorNumbers, readerOf}
 use Rattle.records.specs.Results.{TookLine}
-use Rattle.port.specs.Calls.{collectedC, tookLine}
+use Rattle.line_calls.specs.Calls.{collectedC, tookLine}
 use Rattle.caller.specs.Lines.{saidOf, Row, saying, runIn}
 
 -- a caller's calls through one lump from a place on, with any line arrays and numbers lent: he goes on from got[1] after a 0 with a line and after a

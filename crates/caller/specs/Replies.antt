@@ -4,7 +4,7 @@ use mathlib.Core.Path.{_≡_}
 use mathlib.Core.List.{List}
 use Prim.Native.Nat.{ℕ, _+_, _≤_}
 use lib.ListN.{length, getD}
-use Rattle.port.specs.Calls.{readC}
+use Rattle.packet_calls.specs.Calls.{readC}
 
 -- where bg_read_reply returns 0, the text's start and length, the last two of its numbers, name a part of the packet
 abbrev pub TextInside : Type 0

@@ -1,4 +1,4 @@
--- The request call's definition at each way of its tests, and that every response can be written.
+-- The request call's definition at each way of its tests, that every response can be written, and that the act of every call is fit.
 -- Assumes nothing.
 use mathlib.Core.Path.{_≡_, refl, sym, ap, subst, _∙_}
 use mathlib.Core.Bool.{true, false, not}
@@ -21,7 +21,7 @@ use Rattle.session.specs.Session.{regionOk, sessionOk, State, possible}
 use Rattle.rules.specs.Plan.{above, largest, misSized, sameTag, planLater, planSized, planLength, planFirst, planOf}
 use Rattle.slot.specs.Act.{done, actOf}
 use Rattle.slot.specs.History.{Fit}
-use Rattle.slot.proofs.Fit.{planned-fit}
+use Rattle.slot.proofs.Fit.{keep-fit, erase-fit, end-fit, planned-fit}
 use Rattle.session.proofs.Laws.{region-bounds, session-bounds}
 use Rattle.requests.specs.declared.Request.{Request}
 use Rattle.requests.specs.declared.Reading.{Reading}
@@ -39,6 +39,7 @@ use Rattle.controller.specs.Handle.{
   resetAsked,
   refused,
   Outcome,
+  Taking,
   refusal,
   request,
   asked,
@@ -190,3 +191,28 @@ response-answerable slot st p Request.Images h k e = tt
 response-answerable slot st p (Request.Upload u) h k e =
     placed-small slot st p u (region-bounds slot (length (st .memory)) h .within) k (upload-inside p u e .0)
 response-answerable slot st p Request.Erase h k e = tt
+
+-- the act of a request that was read is fit
+request-fit : (slot : Slot) (st : State) (p : List ℕ) (r : Request) → readRequest p ≡ Reading.Is r → Fit slot (st .session) (actFor slot st p r)
+unfolding actFor
+request-fit slot st p (Request.Answer why) e = keep-fit slot (st .session)
+request-fit slot st p (Request.Echo start len) e = keep-fit slot (st .session)
+request-fit slot st p Request.Reset e = end-fit slot (st .session)
+request-fit slot st p Request.Images e = keep-fit slot (st .session)
+request-fit slot st p (Request.Upload u) e = planned-fit slot st p u (upload-inside p u e .0)
+request-fit slot st p Request.Erase e = erase-fit slot (st .session)
+
+-- so is the act of a packet, however it was read
+read-fit : (slot : Slot) (st : State) (p : List ℕ) (r : Reading) → readRequest p ≡ r → Fit slot (st .session) (actBy slot st p (asked r))
+unfolding asked actBy
+read-fit slot st p Reading.NotARequest e = keep-fit slot (st .session)
+read-fit slot st p (Reading.Is r) e = request-fit slot st p r e
+
+-- and the act of any call
+pub call-fit : (layout : Layout) (st : State) (p b : List ℕ) → Fit (layout .slot1) (st .session) (actBy (layout .slot1) st p (taking layout st p b))
+unfolding taking actBy
+call-fit layout st p b =
+    let slot : Slot = layout .slot1 in
+    let fits : Taking → Type 0 = λ t. Fit slot (st .session) (actBy slot st p t) in
+    pick-case fits (not (possible layout st)) _ _ (λ e. keep-fit slot (st .session))
+    (λ e. pick-case fits (ltb (length b) 32) _ _ (λ f. keep-fit slot (st .session)) (λ f. read-fit slot st p (readRequest p) refl))

@@ -1,4 +1,3 @@
 pub mod Doing
 pub mod Handle
-pub mod Calls
 pub mod Inner

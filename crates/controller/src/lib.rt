@@ -11,9 +11,9 @@ use smp::Reply;
 ghost use mathlib.Core.Path.{_≡_};
 ghost use mathlib.Core.Bool.{true};
 ghost use mathlib.Core.List.{List};
-ghost use Prim.Native.Nat.{ℕ, _+_, _-_, _≤_, _<_};
+ghost use Prim.Native.Nat.{ℕ, _+_, _≤_, _<_};
 ghost use lib.ListN.{length};
-ghost use Rattle.laws.specs.Parts.{partOf, Within};
+ghost use Rattle.laws.specs.Parts.{Within};
 ghost use Rattle.session.specs.Session.{regionOk, layoutOk, sessionOk, stateOf, possible};
 ghost use Rattle.smp.specs.Packet.{headerIn};
 ghost use Rattle.requests.specs.Request.{readRequest};
@@ -21,7 +21,6 @@ ghost use Rattle.smp.specs.Inner.{Written};
 ghost use Rattle.controller.specs.Doing.{replyTo, responseMap, asksReset};
 ghost use Rattle.controller.specs.Handle.{Taking, outcome, handled, handle};
 ghost use Rattle.controller.specs.Inner.{Carried, Answerable};
-ghost use Rattle.controller.specs.Calls.{Ran};
 
 // What the request call says.
 pub enum Answer {
@@ -236,52 +235,4 @@ pub fn handle_packet(
         };
     };
     respond(layout, session, tag, memory, packet, request, reply)
-}
-
-// One packet of a run, taken: the session record after it.
-fn handle_next(
-    layout: Layout,
-    session: Session,
-    tag: &mut [u8; 32],
-    memory: &mut [u8],
-    run: &[u8],
-    at: usize,
-    end: usize,
-    reply: &mut [u8],
-) -> Session
-    requires { ⌜ (at ≤ end) × (end ≤ length (now run)) ⌝ }
-    ensures { λ r. ⌜ stateOf (now (memory .exit)) (now (tag .exit)) r ≡ handle layout (stateOf (now (memory .entry)) (now (tag .entry)) session)
-        (partOf (now (run .entry)) at (end - at)) (now (reply .entry)) .state ⌝ }
-    ensures { λ _. ⌜ now (reply .exit) ≡ handle layout (stateOf (now (memory .entry)) (now (tag .entry)) session)
-        (partOf (now (run .entry)) at (end - at)) (now (reply .entry)) .reply ⌝ }
-{
-    let handled = handle_packet(layout, session, tag, memory, &run[at..end], reply);
-    handled.session
-}
-
-// Takes a run of packets from a closed session on, each behind its length in two bytes, the high one first, as far as they are whole. Gives
-// the session record after the last, and leaves what the calls left. What every history of packets keeps, it keeps.
-pub fn handle_run(
-    layout: Layout,
-    tag: &mut [u8; 32],
-    memory: &mut [u8],
-    run: &[u8],
-    reply: &mut [u8],
-) -> Session
-    ensures { λ r. ⌜ Ran layout (now (memory .entry)) (now (run .entry)) (now (reply .entry)) (now (memory .exit)) (now (tag .exit)) r (now (reply .exit)) ⌝ }
-{
-    let mut session = session::closed_session();
-    *tag = [0u8; 32];
-    let mut at = 0;
-    while 2 <= run.len() - at {
-        let size = laws::wide(run[at]) * 256 + laws::wide(run[at + 1]);
-        let start = at + 2;
-        if run.len() - start < size {
-            return session;
-        }
-        let end = start + size;
-        session = handle_next(layout, session, tag, memory, run, start, end, reply);
-        at = end;
-    }
-    session
 }

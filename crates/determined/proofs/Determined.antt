@@ -21,6 +21,11 @@ use Rattle.host.specs.declared.Written.{Written}
 use Rattle.host.specs.Write as writing
 use Rattle.replies.specs.declared.Heard.{Heard}
 use Rattle.replies.specs.Read as hearing
+use Rattle.recording.specs.declared.First.{First}
+use Rattle.recording.specs.declared.Step as found
+use Rattle.recording.specs.Recording as recording
+use Rattle.transcript.specs.declared.Text.{Text}
+use Rattle.transcript.specs.Transcript as printing
 use Rattle.determined.specs.Determined.{
   Determines,
   StepDetermined,
@@ -30,6 +35,9 @@ use Rattle.determined.specs.Determined.{
   HandledDetermined,
   WrittenDetermined,
   HeardDetermined,
+  FirstDetermined,
+  FoundDetermined,
+  TextDetermined,
 }
 
 -- what leads back determines
@@ -140,3 +148,43 @@ heard-determined = by-return hearing.said unheard back
     back : (h : Heard) → unheard (hearing.said h) ≡ h
     back (Heard.Reply r) = refl
     back (Heard.Refused r) = ap Heard.Refused (number-back r)
+
+-- where a recording's first record stands, from what is said of it
+abbrev unbegun : recording.Begun → First
+unbegun (recording.firstAt place number) = First.At place number
+unbegun (recording.unreadable n) = First.Refused (refusalOf n)
+
+pub first-determined : FirstDetermined
+first-determined = by-return recording.begun unbegun back
+  where
+    back : (f : First) → unbegun (recording.begun f) ≡ f
+    back (First.At place number) = refl
+    back (First.Refused r) = ap First.Refused (number-back r)
+
+-- what stands at a place of a recording, from what is said of it
+abbrev unfound : recording.Said → found.Step
+unfound (recording.recordIs to start len) = found.Step.Record to start len
+unfound recording.over = found.Step.Over
+unfound (recording.refused n) = found.Step.Refused (refusalOf n)
+
+pub found-determined : FoundDetermined
+found-determined = by-return recording.said unfound back
+  where
+    back : (s : found.Step) → unfound (recording.said s) ≡ s
+    back (found.Step.Record to start len) = refl
+    back found.Step.Over = refl
+    back (found.Step.Refused r) = ap found.Step.Refused (number-back r)
+
+-- what writing a text gave, from what is said of it
+abbrev unprinted : printing.Said → Text
+unprinted (printing.text n) = Text.Is n
+unprinted (printing.refused n) = Text.Refused (refusalOf n)
+
+unprinted-said : (t : Text) → unprinted (printing.said t) ≡ t
+unprinted-said (Text.Is n) = refl
+unprinted-said (Text.Refused r) = ap Text.Refused (number-back r)
+
+pub text-determined : TextDetermined
+text-determined =
+    by-return (λ x. record { says = printing.said (x .0); out = x .1 }) (λ o. (unprinted (o .says), o .out))
+    (λ x. ap {A = Text} {B = Text × List ℕ} (λ t. (t, x .1)) (unprinted-said (x .0)))

@@ -1,7 +1,7 @@
 -- "Each public call's promise determines the answer and every lent byte afterwards": any two outcomes that a promise allows are equal.
 -- A promise is an equation, `outcome .. ≡ definition of the inputs`, so this says of each call that what it gives and leaves, taken together,
--- is read off the outcome in one way only. (The calls of the C interface promise the record of all that they return and leave itself, so nothing
--- is left to show of them.)
+-- is read off the outcome in one way only. (The calls of the C interface, and the replay, promise the record of all that they return and leave itself,
+-- so nothing is left to show of them.)
 -- Assumes nothing.
 use Prim.Native.Nat.{ℕ}
 use mathlib.Core.Path.{_≡_}
@@ -20,6 +20,11 @@ use Rattle.host.specs.declared.Written.{Written}
 use Rattle.host.specs.Write as writing
 use Rattle.replies.specs.declared.Heard.{Heard}
 use Rattle.replies.specs.Read as hearing
+use Rattle.recording.specs.declared.First.{First}
+use Rattle.recording.specs.declared.Step as found
+use Rattle.recording.specs.Recording as recording
+use Rattle.transcript.specs.declared.Text.{Text}
+use Rattle.transcript.specs.Transcript as printing
 
 -- a promise `f a ≡ o` determines a
 abbrev pub Determines : {A O : Type 0} → (A → O) → Type 0
@@ -52,3 +57,15 @@ WrittenDetermined = Determines {A = Written × List ℕ} {O = writing.Outcome} (
 -- read_reply: the answer
 abbrev pub HeardDetermined : Type 0
 HeardDetermined = Determines {A = Heard} {O = hearing.Said} hearing.said
+
+-- first_record: the answer
+abbrev pub FirstDetermined : Type 0
+FirstDetermined = Determines {A = First} {O = recording.Begun} recording.begun
+
+-- read_at, and the recording reader: the answer
+abbrev pub FoundDetermined : Type 0
+FoundDetermined = Determines {A = found.Step} {O = recording.Said} recording.said
+
+-- write_transcript: the answer, and the output
+abbrev pub TextDetermined : Type 0
+TextDetermined = Determines {A = Text × List ℕ} {O = printing.Outcome} (λ x. record { says = printing.said (x .0); out = x .1 })

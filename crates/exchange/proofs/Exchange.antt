@@ -39,11 +39,11 @@ use Rattle.controller.specs.Inner.{Answerable}
 use Rattle.controller.specs.Doing.{actFor, replyTo, responseFor, responseMap, asksReset}
 use Rattle.controller.specs.Handle.{Taking, Outcome, request, actBy, bytesBy, saidBy, handled, handle}
 use Rattle.controller.proofs.Laws.{taking-request, response-answerable}
-use Rattle.controller.proofs.Answered.{always-answered}
+use Rattle.history.proofs.Answered.{always-answered}
 use Rattle.host.specs.Write.{writeUpload}
 use Rattle.replies.specs.Read.{reply, readReply}
-use Rattle.host.specs.Meant.{sent, UploadIs, rcMeant, offMeant, textMeant, TextIs}
-use Rattle.host.proofs.Meant.{group-small, reply-meant, upload-meant}
+use Rattle.meant.specs.Meant.{sent, UploadIs, rcMeant, offMeant, textMeant, TextIs}
+use Rattle.meant.proofs.Meant.{group-small, reply-meant, upload-meant}
 use Rattle.exchange.specs.Exchange.{answerIn, Exchanged, Exchange, UploadExchange}
 
 -- the bytes of a reply are those of the answer that goes into the buffer

@@ -28,7 +28,7 @@ use Rattle.controller.specs.Doing.{replyTo, responseFor, responseMap}
 use Rattle.controller.specs.Handle.{Outcome, replied, request, saidBy, handle}
 use Rattle.host.specs.Write.{packet, writeUpload}
 use Rattle.replies.specs.Read.{reply, readReply}
-use Rattle.host.specs.Meant.{sent, UploadIs, rcMeant, offMeant, textMeant, TextIs}
+use Rattle.meant.specs.Meant.{sent, UploadIs, rcMeant, offMeant, textMeant, TextIs}
 
 -- what is replied to the packet p, where x is the response and m the memory: "An echo reply longer than its buffer becomes rc 7", "a list that
 -- doesn't fit rc 7"

@@ -1,5 +1,1 @@
 pub mod Writing
-pub mod Size
-pub mod Walking
-pub mod Maps
-pub mod Meant

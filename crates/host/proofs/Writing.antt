@@ -22,8 +22,7 @@ use Rattle.smp.proofs.Headers.{header-length}
 use Rattle.smp.proofs.Writing.{pasted-front, head-tiny}
 use Rattle.host.specs.declared.Written.the-variants.{Packet}
 use Rattle.host.specs.Write.{requestHeader, requestPacket, echoMap, laterMap, firstMap, oddLength, misSized, Outcome, packet, refused, outcome}
-use Rattle.host.specs.Write.{unsendable, put}
-use Rattle.host.specs.Size.{sendable}
+use Rattle.host.specs.Write.{unsendable, sendable, put}
 use Rattle.host.specs.Inner.{firstPairs}
 
 -- a request is eight bytes longer than its map

@@ -1,4 +1,2 @@
 pub mod Write
-pub mod Size
-pub mod Meant
 pub mod Inner

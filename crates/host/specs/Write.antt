@@ -4,7 +4,7 @@
 use Prim.Native.Nat.{ℕ, _+_, _%_}
 use mathlib.Core.Bool.{Bool, not}
 use mathlib.Core.List.{List, _++_}
-use lib.Dec.{ltb, eqb}
+use lib.Dec.{ltb, leb, eqb}
 use lib.ListN.{length}
 use Rattle.laws.specs.Choice.{pick, both}
 use Rattle.laws.specs.Bytes.{pasted}
@@ -63,6 +63,10 @@ outcome w out = record { says = told w; buffer = out }
 -- refusal 12: nothing is written
 abbrev pub unsendable : List ℕ → Outcome
 unsendable out = record { says = refused 12; buffer = out }
+
+-- a packet of this many bytes is not over 65,533 and not longer than the room
+unfoldable pub sendable : ℕ → ℕ → Bool
+sendable total room = both (leb total 65533) (leb total room)
 
 -- a packet goes to the buffer's start: refused 12 where it is over 65,533 bytes or longer than the output
 unfoldable pub put : List ℕ → List ℕ → Outcome

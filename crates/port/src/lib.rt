@@ -1,12 +1,13 @@
 // The C interface: both ends of the port as functions on numbers, byte slices and small arrays of numbers. include/belagunthi.h declares
 // them, with each promise beside its call.
-use replies::Heard;
-use sender::Sent;
-use session::Configured;
 ghost use mathlib.Core.Path.{_≡_};
-ghost use Rattle.port.specs.Calls.{collectedC, tookLine, handledC, wroteC, sentFrame, configuredC, readC};
+ghost use Rattle.line_calls.specs.Calls.{collectedC, tookLine, sentFrame};
+ghost use Rattle.packet_calls.specs.Calls.{handledC, configuredC, readC};
+ghost use Rattle.host_calls.specs.Calls.{wroteC};
+ghost use Rattle.bench_calls.specs.Calls.{firstC, recordC, transcriptC};
+ghost use Rattle.replay.specs.Replay.{replayed};
 ghost use Rattle.host.specs.Write.{writeEcho, writeReset, writeErase, writeUpload, nextSequence};
-ghost use Rattle.host.specs.Size.{mostData};
+ghost use Rattle.sizes.specs.Size.{mostData};
 
 // Takes one line: see include/belagunthi.h.
 #[no_mangle]
@@ -19,9 +20,7 @@ pub extern "C" fn bg_take_line(
     ensures { λ r. ⌜ record { result = r; record-after = now («record» .exit); packet = now (packet .exit); body = now (body .exit) }
         ≡ tookLine (now («record» .entry)) (now (line .entry)) (now (packet .entry)) (now (body .entry)) ⌝ }
 {
-    let before = records::reader_from(record[0], record[1], record[2], record[3]);
-    let taken = reader::take_line(before, line, packet);
-    records::told_line(taken, record, body)
+    line_calls::take_line(record, line, packet, body)
 }
 
 // Goes on in a lump, to the end of the next line or to the lump's end: see include/belagunthi.h.
@@ -42,17 +41,7 @@ pub extern "C" fn bg_collect(
       got = now (got .exit);
     } ≡ collectedC (now («record» .entry)) (now (held .entry)) (now (lump .entry)) at (now (line .entry)) (now (got .entry)) ⌝ }
 {
-    let before = records::collector_from(record[0], record[1], *held);
-    let step = before.collect(lump, at, line);
-    let gave = step.got;
-    let result = records::step_result(gave);
-    if records::went_on(result) {
-        let length = records::step_length(gave);
-        records::store_collector(record, held, step.collector);
-        *got = [length, step.place as u32];
-        return result;
-    }
-    result
+    line_calls::collect(record, held, lump, at, line, got)
 }
 
 // Takes one request packet: see include/belagunthi.h.
@@ -77,10 +66,7 @@ pub extern "C" fn bg_handle(
     } ≡ handledC (now (layout .entry)) (now (memory .entry)) (now («record» .entry)) (now (tag .entry))
         (now (packet .entry)) (now (reply .entry)) (now (answer .entry)) ⌝ }
 {
-    let before = records::session_from(record[0], record[1], record[2], record[3]);
-    let regions = records::layout_from(layout);
-    let handled = controller::handle_packet(regions, before, tag, memory, packet, reply);
-    records::told_handled(handled, record, answer)
+    packet_calls::handle(layout, memory, record, tag, packet, reply, answer)
 }
 
 // The sequence number after this one.
@@ -88,7 +74,7 @@ pub extern "C" fn bg_handle(
 pub extern "C" fn bg_next_sequence(sequence: u8) -> u8
     ensures { λ r. ⌜ r ≡ nextSequence sequence ⌝ }
 {
-    host::next_sequence(sequence)
+    host_calls::next_sequence(sequence)
 }
 
 // Writes an echo request to the start of out.
@@ -97,8 +83,7 @@ pub extern "C" fn bg_write_echo(sequence: u8, text: &[u8], out: &mut [u8], size:
     ensures { λ r. ⌜ record { result = r; out = now (out .exit); size = now (size .exit) } ≡ wroteC (now (size .entry))
         (writeEcho sequence (now (text .entry)) (now (out .entry))) ⌝ }
 {
-    let w = host::write_echo(sequence, text, out);
-    records::told_c(w, size)
+    host_calls::write_echo(sequence, text, out, size)
 }
 
 // Writes a reset request to the start of out.
@@ -107,8 +92,7 @@ pub extern "C" fn bg_write_reset(sequence: u8, out: &mut [u8], size: &mut u32) -
     ensures { λ r. ⌜ record { result = r; out = now (out .exit); size = now (size .exit) } ≡ wroteC (now (size .entry))
         (writeReset sequence (now (out .entry))) ⌝ }
 {
-    let w = host::write_reset(sequence, out);
-    records::told_c(w, size)
+    host_calls::write_reset(sequence, out, size)
 }
 
 // Writes an erase request to the start of out.
@@ -117,8 +101,7 @@ pub extern "C" fn bg_write_erase(sequence: u8, out: &mut [u8], size: &mut u32) -
     ensures { λ r. ⌜ record { result = r; out = now (out .exit); size = now (size .exit) } ≡ wroteC (now (size .entry))
         (writeErase sequence (now (out .entry))) ⌝ }
 {
-    let w = host::write_erase(sequence, out);
-    records::told_c(w, size)
+    host_calls::write_erase(sequence, out, size)
 }
 
 // Writes an upload request to the start of out.
@@ -135,8 +118,7 @@ pub extern "C" fn bg_write_upload(
     ensures { λ r. ⌜ record { result = r; out = now (out .exit); size = now (size .exit) } ≡ wroteC (now (size .entry))
         (writeUpload sequence (now («data» .entry)) off length (now (tag .entry)) (now (out .entry))) ⌝ }
 {
-    let w = host::write_upload(sequence, data, off, length, tag, out);
-    records::told_c(w, size)
+    host_calls::write_upload(sequence, data, off, length, tag, out, size)
 }
 
 // The most data that an upload request can carry, for an output of this many bytes: 0 where it can carry none.
@@ -144,7 +126,7 @@ pub extern "C" fn bg_write_upload(
 pub extern "C" fn bg_most_data(out_len: usize, off: u64, length: u64, tag_len: usize) -> u32
     ensures { λ r. ⌜ r ≡ mostData «out_len» off length «tag_len» ⌝ }
 {
-    host::most_data(out_len, off, length, tag_len) as u32
+    host_calls::most_data(out_len, off, length, tag_len)
 }
 
 // Writes frame number k of a body, as a line, to the start of out.
@@ -153,15 +135,7 @@ pub extern "C" fn bg_send_frame(body: &[u8], k: usize, out: &mut [u8], sent: &mu
     ensures { λ r. ⌜ record { result = r; out = now (out .exit); sent = now (sent .exit) } ≡ sentFrame (now (body .entry)) k (now (out .entry))
         (now (sent .entry)) ⌝ }
 {
-    match sender::send_frame(body, k, out) {
-        Sent::Frame { length, count } => {
-            *sent = [length as u32, count as u32];
-            return 0;
-        }
-        Sent::Refused(refusal) => {
-            return refusal::number(refusal);
-        }
-    }
+    line_calls::send_frame(body, k, out, sent)
 }
 
 // Says whether the two regions are possible in a memory of this many bytes; if so, the session record is made a closed one.
@@ -175,17 +149,7 @@ pub extern "C" fn bg_configure(
     ensures { λ r. ⌜ record { result = r; session = now (session .exit); tag = now (tag .exit) } ≡ configuredC (now (layout .entry)) room
         (now (session .entry)) (now (tag .entry)) ⌝ }
 {
-    let regions = records::layout_from(layout);
-    match session::configure(regions, room) {
-        Configured::Ready(_) => {
-            *session = [0u32; 4];
-            *tag = [0u8; 32];
-            return 0;
-        }
-        Configured::Refused(refusal) => {
-            return refusal::number(refusal);
-        }
-    }
+    packet_calls::configure(layout, room, session, tag)
 }
 
 // Reads a packet as a reply.
@@ -193,13 +157,83 @@ pub extern "C" fn bg_configure(
 pub extern "C" fn bg_read_reply(packet: &[u8], reply: &mut [u32; 12]) -> u32
     ensures { λ r. ⌜ record { result = r; reply = now (reply .exit) } ≡ readC (now (packet .entry)) (now (reply .entry)) ⌝ }
 {
-    match replies::read_reply(packet) {
-        Heard::Reply(heard) => {
-            *reply = records::reply_numbers(heard);
-            return 0;
-        }
-        Heard::Refused(refusal) => {
-            return refusal::number(refusal);
-        }
-    }
+    packet_calls::read_reply(packet, reply)
+}
+
+// Finds the first record of a recording: see include/belagunthi.h.
+#[no_mangle]
+pub extern "C" fn bg_first_record(file: &[u8], first: &mut [usize; 2]) -> u32
+    ensures { λ r. ⌜ record { result = r; first = now (first .exit) } ≡ firstC (now (file .entry)) (now (first .entry)) ⌝ }
+{
+    bench_calls::first_numbers(file, first)
+}
+
+// Reads the record at a place of a recording: see include/belagunthi.h.
+#[no_mangle]
+pub extern "C" fn bg_next_record(file: &[u8], at: usize, record: &mut [usize; 3]) -> u32
+    ensures { λ r. ⌜ record { result = r; numbers = now («record» .exit) } ≡ recordC (now (file .entry)) at (now («record» .entry)) ⌝ }
+{
+    bench_calls::record_numbers(file, at, record)
+}
+
+// Replays a recording on a fresh controller: see include/belagunthi.h.
+#[no_mangle]
+pub extern "C" fn bg_replay(
+    file: &[u8],
+    memory: &mut [u8; replay::MEMORY],
+    session: &mut [u32; 4],
+    tag: &mut [u8; 32],
+    reader: &mut [u32; 4],
+    packet: &mut [u8; replay::BUFFER],
+    reply: &mut [u8; replay::BUFFER],
+    answers: &mut [u32],
+    count: &mut usize,
+) -> u32
+    ensures { λ r. ⌜ record {
+      result = r;
+      bench = record {
+        memory = now (memory .exit);
+        session = now (session .exit);
+        tag = now (tag .exit);
+        reader = now (reader .exit);
+        packet = now (packet .exit);
+        reply = now (reply .exit);
+      };
+      answers = now (answers .exit);
+      count = now (count .exit);
+    } ≡ replayed (record {
+      memory = now (memory .entry);
+      session = now (session .entry);
+      tag = now (tag .entry);
+      reader = now (reader .entry);
+      packet = now (packet .entry);
+      reply = now (reply .entry);
+    }) (now (answers .entry)) (now (count .entry)) (now (file .entry)) ⌝ }
+{
+    replay::replay_file(
+        file,
+        memory,
+        session,
+        tag,
+        reader,
+        packet,
+        reply,
+        answers,
+        count,
+    )
+}
+
+// Writes the text of a replay: see include/belagunthi.h.
+#[no_mangle]
+pub extern "C" fn bg_write_transcript(
+    answers: &[u32],
+    count: usize,
+    session: &[u32; 4],
+    out: &mut [u8],
+    size: &mut usize,
+) -> u32
+    ensures { λ r. ⌜ record { result = r; out = now (out .exit); size = now (size .exit) }
+        ≡ transcriptC (now (answers .entry)) count (now (session .entry)) (now (out .entry)) (now (size .entry)) ⌝ }
+{
+    bench_calls::transcript_numbers(answers, count, session, out, size)
 }

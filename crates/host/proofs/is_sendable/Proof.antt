@@ -2,7 +2,7 @@
 -- Assumes nothing.
 use borrow.Author.Tests.{lt-leb, le-leb}
 use Rattle.laws.proofs.Choice.{both-yes, both-no}
-use Rattle.host.specs.Size.{sendable}
+use Rattle.host.specs.Write.{sendable}
 use Rattle.host.proofs.is_sendable.Statement.{statement}
 use Rattle.host.proofs.is_sendable.Tie as tie
 

@@ -1,0 +1,53 @@
+-- `replay::store` meets its contract: three stores one after the other are the three numbers written.
+-- Assumes nothing.
+use native.Mathlib.Omega.{arith}
+use lib.ListN.{length-set}
+use Rattle.replay.proofs.Laws.{set-thrice-pasted}
+use borrow.Author.Needs.{needs}
+use Rattle.replay.proofs.store.Statement.{statement}
+use Rattle.replay.proofs.store.Tie as tie
+
+mul-answers : tie.Need-mul-answers
+mul-answers c = search needs
+
+slice-write-answers : tie.Need-slice-write-answers
+slice-write-answers c = search needs
+
+add-answers : tie.Need-add-answers
+add-answers c = search needs
+
+mul-answers-2 : tie.Need-mul-answers-2
+mul-answers-2 c = search needs
+
+slice-write-answers-2 : tie.Need-slice-write-answers-2
+slice-write-answers-2 c = simp length-set (omega arith)
+
+add-answers-2 : tie.Need-add-answers-2
+add-answers-2 c = search needs
+
+mul-answers-3 : tie.Need-mul-answers-3
+mul-answers-3 c = search needs
+
+slice-write-answers-3 : tie.Need-slice-write-answers-3
+slice-write-answers-3 c = simp length-set (omega arith)
+
+same-length : tie.Need-same-length
+same-length c = search needs
+
+returns : tie.Need-returns
+returns c = let a = c .args in set-thrice-pasted (a .answers .now) (a .at) (a .answer .refusal) (a .answer .replied) (a .answer .rc) (c .pre)
+
+pub store-spec : {M : Type 1} → statement M
+store-spec =
+    tie.close
+    (tie.spec
+    mul-answers
+    slice-write-answers
+    add-answers
+    mul-answers-2
+    slice-write-answers-2
+    add-answers-2
+    mul-answers-3
+    slice-write-answers-3
+    same-length
+    returns)

@@ -1,0 +1,5 @@
+pub mod Lines
+pub mod Sessions
+pub mod Writers
+pub mod Reading
+pub mod Steps
