@@ -61,10 +61,10 @@ const GENERATORS: [(usize, Generator); 20] = [
     (80, writers::single),
     (110, replies::single),
     (1, exchange::run),
-    (30, recordings::files),
-    (90, recordings::small_files),
-    (90, recordings::replays),
-    (60, recordings::transcripts),
+    (36, recordings::files),
+    (108, recordings::small_files),
+    (120, recordings::replays),
+    (90, recordings::transcripts),
     (1, recordings::by_hand),
 ];
 

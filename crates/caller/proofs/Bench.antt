@@ -1,17 +1,15 @@
 -- The text of a replay is that of its answers, in order.
 -- Assumes nothing.
-use Prim.Native.Nat.{ℕ, suc, _+_, _*_, _≤_}
+use Prim.Native.Nat.{ℕ, _+_, _*_}
 use mathlib.Core.Path.{_≡_, refl, sym, ap, ap₂, _∙_}
 use mathlib.Core.Bool.{Bool, true, false}
 use mathlib.Core.List.{List, [], _∷_, _++_, append-assoc}
-use mathlib.Core.Option.{some}
 use native.Mathlib.Omega.{arith}
 use native.Mathlib.Nat.{zero-add}
 use lib.ListN.{length, drop, getD, length-append}
 use lib.Seq.{getD-append-add}
 use Rattle.laws.proofs.Choice.{pick-yes, pick-no}
 use Rattle.laws.proofs.Lists.{pasted-start}
-use Rattle.session.specs.declared.Session.{Session}
 use Rattle.recording.specs.Recording.{Entry}
 use Rattle.feed.specs.declared.Answer.{Answer}
 use Rattle.feed.specs.Feed.{Bench, feedLine}

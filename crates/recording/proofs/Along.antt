@@ -25,7 +25,6 @@ use Rattle.recording.specs.Recording.{
   firstIn,
   recordsOf,
   isSome,
-  Begun,
   firstAt,
   unreadable,
   firstRecord,

@@ -1,7 +1,7 @@
 -- The records of a file are those that it has by the paper's form; and the reader gives them one by one.
 -- Assumes nothing.
 use mathlib.Core.Path.{_≡_, refl, sym, ap, ap₂, subst, _∙_}
-use mathlib.Core.Bool.{Bool, true, false, false≢true}
+use mathlib.Core.Bool.{Bool, true, false}
 use mathlib.Core.List.{List, [], _∷_, _++_, append-assoc, append-nil}
 use mathlib.Core.Option.{Option, none, some, Option·some-injective}
 use Prim.Native.Nat.{ℕ, zero, suc, _+_, _*_, _-_, _/_, _%_, _^_, _≤_, _<_}
@@ -11,11 +11,11 @@ use native.Mathlib.Omega.{arith}
 use lib.Dec.{ltb, eqb}
 use lib.ListN.{length, take, drop, getD, length-append, length-take, length-drop, take-append-drop}
 use lib.Seq.{getD-append-add, take-at, take-add, drop-drop, drop-cons, drop-length, drop-append-add, getD-append-seam}
-use borrow.Author.Tests.{ltb-false, ltb-true, lt-ltb, le-ltb, eq-eqb, ne-eqb, eqb-true}
+use borrow.Author.Tests.{ltb-false, le-ltb, eq-eqb, ne-eqb, eqb-true}
 use Rattle.laws.specs.Choice.{pick}
-use Rattle.laws.specs.Bytes.{Bytes, be16, ofBe16}
+use Rattle.laws.specs.Bytes.{Bytes, be16}
 use Rattle.laws.specs.Parts.{partOf}
-use Rattle.laws.proofs.Choice.{pick-yes, pick-no, pick-case, pick-keep}
+use Rattle.laws.proofs.Choice.{pick-yes, pick-no, pick-keep}
 use Rattle.recording.specs.declared.Found.{Found}
 use Rattle.recording.specs.declared.Found.the-variants.{Whole, Cut}
 use Rattle.recording.specs.Recording.{
@@ -35,9 +35,7 @@ use Rattle.recording.specs.Recording.{
   lineAt,
   recordAt,
   trailerAt,
-  Said,
   recordIs,
-  over,
   saidOf,
   stepAt,
   before,

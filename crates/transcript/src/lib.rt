@@ -6,7 +6,7 @@ ghost use Prim.Native.Nat.{_+_, _*_, _≤_, _<_};
 ghost use lib.Dec.{leb};
 ghost use lib.ListN.{length};
 ghost use Rattle.cbor.specs.Inner.{Put};
-ghost use Rattle.transcript.specs.Transcript.{rcText, lineText, lineOf, linesFrom, endText, transcript, said, written};
+ghost use Rattle.transcript.specs.Transcript.{rcText, lineText, endText, transcript, said, written};
 
 // How many numbers an answer has: the refusal or 0, whether there is a reply, and its return code.
 pub const NUMBERS: usize = 3;

@@ -4,7 +4,6 @@
 use mathlib.Core.Path.{_≡_, refl, sym, ap, _∙_}
 use Prim.Native.Nat.{ℕ, suc, _+_, _-_}
 use native.Mathlib.Omega.{arith}
-use lib.ListN.{length}
 use borrow.Author.Needs.{needs}
 use Rattle.recording.specs.declared.Found.the-variants.{Whole, Cut}
 use Rattle.recording.specs.Recording.{recordAt, trailerAt, entriesFrom, isSome}

@@ -1,3 +1,5 @@
+-- `recording::first_record` meets its contract: each return is the definition under the tests that led there.
+-- Assumes nothing.
 use mathlib.Core.Path.{sym, _∙_}
 use native.Mathlib.Omega.{arith}
 use borrow.Author.Needs.{needs}
@@ -5,38 +7,27 @@ use borrow.Author.Tests.{not-true, not-false}
 use Rattle.recording.proofs.Laws.{first-short, first-far, first-no, first-yes}
 use Rattle.recording.proofs.first_record.Statement.{statement}
 use Rattle.recording.proofs.first_record.Tie as tie
-use Rattle.recording.proofs.first_record.Reads as reads
-use Rattle.recording.proofs.first_record.Lts as lts
-use Rattle.recording.proofs.fills.Reads as fills-reads
-use Rattle.recording.proofs.four_at.Reads as four-at-reads
 
--- src/lib.rt:162:9
 returns : tie.Need-returns
 returns c = sym (first-short (c .before .before .args .file .now) (c .if1 .taken))
 
--- src/lib.rt:165:9
 four-at-requires : tie.Need-four-at-requires
 four-at-requires c κs = search needs
 
--- src/lib.rt:166:32
 add-four-at : tie.Need-add-four-at
 add-four-at c = search needs
 
--- src/lib.rt:166:9
 four-at-requires-2 : tie.Need-four-at-requires-2
 four-at-requires-2 c κs = search needs
 
--- src/lib.rt:168:9
 returns-2 : tie.Need-returns-2
 returns-2 c =
     let file = c .before .before .before .before .before .args .file .now in
     sym (first-far file (omega (arith, c .before .before .before .if1 .left)) (omega (arith, c .if2 .taken, c .before .before .four-at .ensures .0)))
 
--- src/lib.rt:171:9
 fills-requires : tie.Need-fills-requires
 fills-requires c κs = search needs
 
--- src/lib.rt:172:9
 returns-3 : tie.Need-returns-3
 returns-3 c =
     let file = c .before .before .before .before .before .before .before .args .file .now in
@@ -45,7 +36,6 @@ returns-3 c =
     first-no file (d .result) (n .result) (omega (arith, c .before .before .before .before .before .if1 .left)) (d .ensures .0) (n .ensures .0)
     (omega (arith, c .before .before .if2 .left)) (sym (c .before .fills .ensures) ∙ not-true _ (c .if3 .taken))
 
--- src/lib.rt:157:1
 returns-4 : tie.Need-returns-4
 returns-4 c =
     let file = c .before .before .before .before .before .before .before .args .file .now in

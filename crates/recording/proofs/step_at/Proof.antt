@@ -1,6 +1,5 @@
 -- `recording::step_at` meets its contract: each return is the definition under the tests that led there.
 -- Assumes nothing.
-use mathlib.Core.Path.{sym, ap, _∙_}
 use borrow.Author.Needs.{needs}
 use borrow.Author.Tests.{eq-eqb, ne-eqb, lt-ltb, le-ltb}
 use Rattle.laws.proofs.Choice.{pick-yes, pick-no}

@@ -1,6 +1,6 @@
 -- `replay::replay_file` meets its contract: the two refusals, or the records from the first one on, fed to a fresh bench.
 -- Assumes nothing.
-use mathlib.Core.Path.{_≡_, sym, ap, _∙_}
+use mathlib.Core.Path.{sym, ap, _∙_}
 use mathlib.Core.List.{List}
 use Prim.Native.Nat.{ℕ}
 use native.Mathlib.Omega.{arith}
