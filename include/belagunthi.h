@@ -280,7 +280,8 @@ uint32_t bg_first_record(const uint8_t *file, size_t file_len, size_t first[BG_F
 /*
  * Reads the record at a place of a file, which is a recording or not. Returns 0 with record = { 3E or 3C (hexadecimal), where its line starts in the file,
  * the line's length }; the next record stands behind the line. Returns 0 with record = { 0, at, 0 } where the file's last 8 bytes begin there: the records
- * are over. Refuses 12, and record stays: a file under 8 bytes, another first byte, or a record that does not end before the last 8 bytes.
+ * are over. Refuses 12, and record stays: a file under 8 bytes, a place behind the first of the last 8 bytes, another first byte, or a
+ * record that does not end before the last 8 bytes.
  * From the first record on, each time behind the last line, it gives the records of a recording in order, as many as bg_first_record says, and then that
  * they are over.
  */
