@@ -175,13 +175,13 @@ decode-encode (a ∷ b ∷ c ∷ d ∷ s) p h =
     ) refl
 
 -- bytes before others, when nothing is not well formed
-ahead-some : (x : List ℕ) (o : Option (List ℕ)) (y : List ℕ) → ahead x o ≡ some y → (s : List ℕ) × ((o ≡ some s) × (y ≡ x ++ s))
+pub ahead-some : (x : List ℕ) (o : Option (List ℕ)) (y : List ℕ) → ahead x o ≡ some y → (s : List ℕ) × ((o ≡ some s) × (y ≡ x ++ s))
 unfolding ahead
 ahead-some x none y e = let z : _≡_ {A = ℕ} 0 1 = cc in absurd (omega arith)
 ahead-some x (some s) y e = (s, (refl, cc))
 
 -- nothing is never something
-none-some : {A : Type 0} (x : A) → _≡_ {A = Option A} none (some x) → ⊥
+pub none-some : {A : Type 0} (x : A) → _≡_ {A = Option A} none (some x) → ⊥
 none-some x e = let z : _≡_ {A = ℕ} 0 1 = cc in omega arith
 
 -- what a group of four characters that stand for numbers says of each
