@@ -3,8 +3,8 @@
  *
  * Each call is proved to keep the promise in the comment above it, for every value of its arguments: it ends, it touches nothing but what
  * it is lent, and it returns 0 or the number of one refusal (bg_next_sequence and bg_most_data refuse nothing, and return their number). After a
- * refusal every lent byte and number is as it was, but for two: at 4, 6, 7, 8 and 9 the reader's record is then idle, and at the collector's 2 its record
- * is then empty and the place behind the line is given. No call keeps anything of its own: there is nothing to set up, and calls on different arrays may
+ * refusal every lent byte and number is as it was, but for three: at 4, 6, 7, 8 and 9 the reader's record is then idle, at 4 the place of the bad text is
+ * given, and at the collector's 2 its record is then empty and the place behind the line is given. No call keeps anything of its own: there is nothing to set up, and calls on different arrays may
  * run at the same time.
  *
  * What the caller owes, and no call can check:
@@ -49,8 +49,8 @@ extern "C" {
 #endif
 
 /* The version: major * 10000 + minor * 100 + patch. The major number changes with a promise that a caller may rely on, the minor with a new name. */
-#define BG_VERSION 30100
-#define BG_VERSION_TEXT "3.1.0"
+#define BG_VERSION 40000
+#define BG_VERSION_TEXT "4.0.0"
 
 /* The most stack that a call takes, in bytes; and bg_replay, which no controller and no host needs. */
 #define BG_STACK 1024
@@ -62,7 +62,7 @@ enum bg_result {
   BG_IMPOSSIBLE = 1,       /* the layout, the session record or the collector's record is impossible */
   BG_LINE_TOO_LONG = 2,    /* the line is over 127 bytes */
   BG_NO_FRAME = 3,         /* the line is under 3 bytes, has no marker, or no 0A at its end */
-  BG_BAD_TEXT = 4,         /* the line's text is not well-formed Base64 */
+  BG_BAD_TEXT = 4,         /* the line's text is not well-formed Base64: bg_take_line says at which place */
   BG_NO_PACKET_OPEN = 5,   /* a partial frame, and no packet is open */
   BG_BAD_TOTAL = 6,        /* an initial frame with under 2 raw bytes, or a total under 10 */
   BG_BODY_TOO_LONG = 7,    /* the body is longer than the packet buffer */
@@ -142,11 +142,12 @@ enum bg_record_kind { BG_RECORDS_OVER = 0, BG_FROM_CONTROLLER = 0x3C, BG_TO_CONT
 #define BG_BENCH_BUFFER 1024
 
 /*
- * An answer of a replay in three numbers: { the refusal of the line or of its packet or 0, 1 where the line completed a packet that was replied to, else 0,
- * the reply's rc or 0 }. The rc is that of bg_read_reply, so 0 where the reply has none; and 0 for a list of images.
+ * An answer of a replay in four numbers: { the refusal of the line or of its packet or 0, 1 where the line completed a packet that was replied to, else 0,
+ * the reply's rc or 0, the place that bg_take_line gives with refusal 4, else 0 }. The rc is that of bg_read_reply, so 0 where the reply has none; and 0 for
+ * a list of images.
  */
-#define BG_ANSWER 3
-enum bg_answer_number { BG_ANSWER_REFUSAL, BG_ANSWER_REPLIED, BG_ANSWER_RC };
+#define BG_ANSWER 4
+enum bg_answer_number { BG_ANSWER_REFUSAL, BG_ANSWER_REPLIED, BG_ANSWER_RC, BG_ANSWER_PLACE };
 
 /* The longest lump; the longest line, which is also the shortest output that bg_send_frame takes; the longest packet; the shortest reply buffer. */
 #define BG_LUMP 256
@@ -179,10 +180,14 @@ uint32_t bg_collect(uint32_t collector[BG_COLLECTOR], uint8_t held[BG_HELD], con
  * *body bytes stand at the packet buffer's start, and the record is idle. Body bytes go to the packet buffer in order; its other bytes stay.
  * Refuses 2 to 9, in this order. At 2, 3 and 5 the record stays; at the others it becomes idle. The packet buffer and *body stay at all of
  * them: the CRC is compared before a byte is written. A record that is open outside its bounds is refused 5 for a partial frame.
+ * With refusal 4, *place is a place in the line, from 0: that of the first character of its text at which no well-formed text can begin with what stands up
+ * to there, that character too; or, where the text is only too short, that of the 0A, line_len less 1. It is 2 at least. Where unused bits are not zero it is
+ * the place of the first '='. With 0 and with every other refusal *place stays.
  * Over a row of calls, record and packet buffer untouched between them: the lines of a body that bg_send_frame wrote, in order and with lines that are
  * refused 2 or 3 anywhere among them, are answered "more" until the last, which gives the body back, whatever the record was at first.
  */
-uint32_t bg_take_line(uint32_t reader[BG_READER], const uint8_t *line, size_t line_len, uint8_t *packet, size_t packet_len, uint32_t *body);
+uint32_t bg_take_line(uint32_t reader[BG_READER], const uint8_t *line, size_t line_len, uint8_t *packet, size_t packet_len, uint32_t *body,
+                      uint32_t *place);
 
 /*
  * Writes frame number k (from 0) of a body, as a line, to the start of out; the bytes after it stay.
@@ -208,7 +213,8 @@ uint32_t bg_configure(const size_t layout[BG_LAYOUT], size_t memory_len, uint32_
  * tagged are then 0 or 1; a reset or an erase that is answered rc 0 makes all of it 0 (an erase sets the whole upload slot to 255; one that is answered
  * rc 3, as of another slot than 1, changes nothing); a start writes length, place and the tag, zeros where there is none; data that is added moves place
  * alone; and any other request leaves the other numbers and the tag as they were lent. A request is at most 65,533 bytes long; an echo reply longer than
- * the reply buffer becomes rc 7. An rc other than 0 leaves memory and session. No byte of the memory outside the upload slot is ever written.
+ * the reply buffer becomes rc 7. An upload at offset 0 whose length is above the upload slot's size, but not above 4,294,967,295, is answered rc 2, one with the
+ * open session's tag and another length rc 6; the checks stand in the paper's order. An rc other than 0 leaves memory and session. No byte of the memory outside the upload slot is ever written.
  * Refuses 1, 11 and 10, in this order: everything stays.
  *
  * A state read (op 0, group 1, command 0) is answered with {"images": [..]}, without "rc": for slot 0 and then for slot 1, each where it holds a valid
@@ -291,10 +297,10 @@ uint32_t bg_next_record(const uint8_t *file, size_t file_len, size_t at, size_t 
  * Replays a recording: each line to the controller goes, in order, to bg_take_line, and each packet that this completes to bg_handle with the layout
  * { 0, 4096, 4096, 4096 }; lines from the controller are passed over. All begins anew: the whole memory is set to 255, session record and tag are closed,
  * the reader's record is idle; the two buffers are taken as they are lent.
- * Returns 0 with *count the number of lines to the controller. The answer to the line of number k, from 0, stands in the three numbers from 3 * k on (see
+ * Returns 0 with *count the number of lines to the controller. The answer to the line of number k, from 0, stands in the four numbers from 4 * k on (see
  * BG_ANSWER), and the numbers behind the last answer stay. Memory, session record, tag, reader's record and both buffers are as those calls left them. A
  * reset that is asked ends the session, and the replay goes on.
- * Refuses 12, and everything stays: the file is no recording, or answers_len is under 3 times its number of records, those from the controller counted.
+ * Refuses 12, and everything stays: the file is no recording, or answers_len is under 4 times its number of records, those from the controller counted.
  */
 uint32_t bg_replay(const uint8_t *file, size_t file_len, uint8_t memory[BG_BENCH_MEMORY], uint32_t session[BG_SESSION], uint8_t tag[BG_TAG],
                    uint32_t reader[BG_READER], uint8_t packet[BG_BENCH_BUFFER], uint8_t reply[BG_BENCH_BUFFER], uint32_t *answers,
@@ -302,9 +308,9 @@ uint32_t bg_replay(const uint8_t *file, size_t file_len, uint8_t memory[BG_BENCH
 
 /*
  * Writes the text of a replay to the start of out, whose other bytes stay: for each of the first count answers a line of its number from 0, the refusal or
- * 0, and the rc, or '-' where there is no reply, with one blank between; then "end" and the session's place, or "end none" where it is closed. Numbers
+ * 0, and the rc, or '-' where there is no reply, with one blank between, and no place; then "end" and the session's place, or "end none" where it is closed. Numbers
  * are in decimal, and each line ends in 0A, the last too. Returns 0 with *text_len the text's length. Refuses 12, and out and *text_len stay: answers_len
- * under 3 * count, or an output shorter than the text. A line has at most 43 bytes.
+ * under 4 * count, or an output shorter than the text. A line has at most 43 bytes.
  */
 uint32_t bg_write_transcript(const uint32_t *answers, size_t answers_len, size_t count, const uint32_t session[BG_SESSION], uint8_t *out, size_t out_len,
                              size_t *text_len);

@@ -2,7 +2,7 @@
 -- Assumes nothing.
 use mathlib.Core.Path.{_≡_, refl, sym, _∙_}
 use Prim.Native.Nat.{ℕ, _+_, _*_, _/_, _%_, _≤_, _<_}
-use native.Mathlib.Numerals.{add-one, add-two, add-three}
+use native.Mathlib.Numerals.{add-one, add-two}
 use native.Mathlib.Omega.{arith}
 use mathlib.Core.Bool.{Bool, true, false}
 use mathlib.Core.List.{List, [], _∷_, append-assoc}
@@ -65,12 +65,6 @@ full-no a b c d h = by-case (full a b c d) refl
 store-three : (m : List ℕ) (o a b c : ℕ) → o + 3 ≤ length m → set (set (set m o a) (o + 1) b) (o + 2) c ≡ pasted m o (a ∷ b ∷ c ∷ [])
 unfolding pasted
 store-three m o a b c h = rw (add-one, add-two) (sets-eq (a ∷ b ∷ c ∷ []) m o h ∙ append-assoc (take o m) (a ∷ b ∷ c ∷ []) (drop (o + 3) m))
-
--- four stores are four pasted numbers
-pub store-four : (m : List ℕ) (o a b c d : ℕ) → o + 4 ≤ length m → set (set (set (set m o a) (o + 1) b) (o + 2) c) (o + 3) d ≡ pasted m o (a ∷ b ∷ c ∷ d ∷ [])
-unfolding pasted
-store-four m o a b c d h =
-    rw (add-one, add-two, add-three) (sets-eq (a ∷ b ∷ c ∷ d ∷ []) m o h ∙ append-assoc (take o m) (a ∷ b ∷ c ∷ d ∷ []) (drop (o + 4) m))
 
 -- the word of 24 bits that four numbers below 64 make
 abbrev word : ℕ → ℕ → ℕ → ℕ → ℕ

@@ -8,10 +8,10 @@ use mathlib.Core.List.{List, [], _∷_, _++_}
 use lib.ListN.{length, getD, take, drop, set, length-take, take-append-drop, drop-of-length-le}
 use lib.Seq.{drop-cons, take-add, take-all}
 use Rattle.laws.specs.Bytes.{pasted}
+use Rattle.laws.proofs.Lists.{set-four-pasted}
 use Rattle.base64.specs.Base64.{char, pad, encode}
 use Rattle.base64.specs.Inner.{Encodes, headText, textOfThree}
 use Rattle.base64.proofs.Laws.{encode-length}
-use Rattle.base64.proofs.Steps.{store-four}
 use Rattle.base64.proofs.Runs.{pasted-next}
 
 -- the text of whole groups before more bytes is that of the groups before that of the bytes
@@ -104,13 +104,13 @@ pub text-three : (m : List ℕ) (o a b c p q r s : ℕ) → o + 4 ≤ length m
     → s ≡ char (c % 64)
     → set (set (set (set m o p) (o + 1) q) (o + 2) r) (o + 3) s ≡ pasted m o (encode (a ∷ b ∷ c ∷ []))
 unfolding encode
-text-three m o a b c p q r s h ep eq er es = rw (← ep, ← eq, ← er, ← es) (store-four m o p q r s h)
+text-three m o a b c p q r s h ep eq er es = rw (← ep, ← eq, ← er, ← es) (set-four-pasted m o p q r s h)
 
 -- four stores that are the text of one byte
 pub text-one : (m : List ℕ) (o a p q : ℕ) → o + 4 ≤ length m → p ≡ char (a / 4) → q ≡ char (a % 4 * 16)
     → set (set (set (set m o p) (o + 1) q) (o + 2) pad) (o + 3) pad ≡ pasted m o (encode (a ∷ []))
 unfolding encode
-text-one m o a p q h ep eq = rw (← ep, ← eq) (store-four m o p q pad pad h)
+text-one m o a p q h ep eq = rw (← ep, ← eq) (set-four-pasted m o p q pad pad h)
 
 -- four stores that are the text of two bytes
 pub text-two : (m : List ℕ) (o a b p q r : ℕ) → o + 4 ≤ length m
@@ -119,4 +119,4 @@ pub text-two : (m : List ℕ) (o a b p q r : ℕ) → o + 4 ≤ length m
     → r ≡ char (b % 16 * 4)
     → set (set (set (set m o p) (o + 1) q) (o + 2) r) (o + 3) pad ≡ pasted m o (encode (a ∷ b ∷ []))
 unfolding encode
-text-two m o a b p q r h ep eq er = rw (← ep, ← eq, ← er) (store-four m o p q r pad h)
+text-two m o a b p q r h ep eq er = rw (← ep, ← eq, ← er) (set-four-pasted m o p q r pad h)

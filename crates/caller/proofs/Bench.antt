@@ -19,19 +19,19 @@ use Rattle.transcript.specs.Transcript.{lineText, lineOf, linesFrom, endText, t
 use Rattle.caller.specs.Bench.{printed, linesTo, ReplayPrinted}
 
 -- the line of an answer whose numbers stand behind those of k others
-one-line : (k : ℕ) (before : List ℕ) (a : Answer) (rest : List ℕ) → length before ≡ 3 * k
+one-line : (k : ℕ) (before : List ℕ) (a : Answer) (rest : List ℕ) → length before ≡ 4 * k
     → lineOf (before ++ (numbers a ++ rest)) k ≡ lineText k (a .refusal) (a .replied) (a .rc)
 one-line k before a rest e =
-    let first : getD (before ++ (numbers a ++ rest)) (3 * k) 0 ≡ a .refusal =
+    let first : getD (before ++ (numbers a ++ rest)) (4 * k) 0 ≡ a .refusal =
     ap (λ (n : ℕ). getD (before ++ (numbers a ++ rest)) n 0) (omega (arith, e)) ∙ getD-append-add before (numbers a ++ rest) 0 0 in
-    let second : getD (before ++ (numbers a ++ rest)) (3 * k + 1) 0 ≡ a .replied =
+    let second : getD (before ++ (numbers a ++ rest)) (4 * k + 1) 0 ≡ a .replied =
     ap (λ (n : ℕ). getD (before ++ (numbers a ++ rest)) n 0) (omega (arith, e)) ∙ getD-append-add before (numbers a ++ rest) 1 0 in
-    let third : getD (before ++ (numbers a ++ rest)) (3 * k + 2) 0 ≡ a .rc =
+    let third : getD (before ++ (numbers a ++ rest)) (4 * k + 2) 0 ≡ a .rc =
     ap (λ (n : ℕ). getD (before ++ (numbers a ++ rest)) n 0) (omega (arith, e)) ∙ getD-append-add before (numbers a ++ rest) 2 0 in
     rw (first, second, third)
 
 -- the lines of answers whose numbers stand behind those of k others
-all-lines : (k : ℕ) (before : List ℕ) (says : List Answer) (rest : List ℕ) → length before ≡ 3 * k
+all-lines : (k : ℕ) (before : List ℕ) (says : List Answer) (rest : List ℕ) → length before ≡ 4 * k
     → linesFrom (before ++ (allNumbers says ++ rest)) (length says) k ≡ printed k says
 unfolding linesFrom printed allNumbers
 all-lines k before [] rest e = refl
@@ -40,7 +40,7 @@ all-lines k before (a ∷ says) rest e =
     let front : before ++ ((numbers a ++ allNumbers says) ++ rest) ≡ before ++ (numbers a ++ tail) =
     ap (λ (l : List ℕ). before ++ l) (append-assoc (numbers a) (allNumbers says) rest) in
     let moved : before ++ (numbers a ++ tail) ≡ (before ++ numbers a) ++ tail = sym (append-assoc before (numbers a) tail) in
-    let size : length (before ++ numbers a) ≡ 3 * (k + 1) = rw length-append (omega (arith, e)) in
+    let size : length (before ++ numbers a) ≡ 4 * (k + 1) = rw length-append (omega (arith, e)) in
     ap₂ (λ (x y : List ℕ). x ++ y) (ap (λ (l : List ℕ). lineOf l k) front ∙ one-line k before a tail e)
     (ap (λ (l : List ℕ). linesFrom l (length says) (k + 1)) (front ∙ moved) ∙ all-lines (k + 1) (before ++ numbers a) says rest size)
 

@@ -8,7 +8,7 @@ use Prim.Native.Nat.{ℕ, _+_, _-_, _≤_, _<_}
 use native.Mathlib.Omega.{arith}
 use lib.Dec.{ltb, leb, eqb, lit<}
 use lib.ListN.{length, getD, take, drop}
-use borrow.Author.Tests.{ltb-false, leb-true, ne-eqb}
+use borrow.Author.Tests.{ltb-false, leb-true, eq-eqb, ne-eqb}
 use Rattle.laws.specs.Choice.{both}
 use Rattle.laws.specs.Bytes.{Bytes, ofBe16}
 use Rattle.laws.proofs.Choice.{pick-case, pick-yes, pick-no, both-true}
@@ -24,6 +24,7 @@ use Rattle.reader.specs.Reader.{
   more,
   body,
   refused,
+  badText,
   Outcome,
   keeping,
   dropping,
@@ -35,10 +36,12 @@ use Rattle.reader.specs.Reader.{
   absorb,
   begin,
   resume,
-  begun,
-  resumed,
+  placeIn,
+  decoded,
   takeLine,
 }
+use Rattle.reader.specs.Place.{PlaceIn}
+use Rattle.reader.proofs.Placed.{place-given}
 use Rattle.reader.specs.Lines as lines
 use Rattle.reader.specs.Lines.{feed}
 use Rattle.sender.specs.Sender as sending
@@ -49,26 +52,27 @@ use Rattle.records.specs.Records.{readerFrom, readerOf}
 use Rattle.records.specs.Results.{keepsRecord, TookLine, tookBy}
 use Rattle.line_calls.specs.Calls.{tookLine, sentBy, sentFrame}
 use Rattle.caller.specs.Records.{FirstByte}
-use Rattle.caller.specs.Lines.{saidOf, saying, taking, RowTakes, LineWritten, CallerRoundTrip}
+use Rattle.caller.specs.Lines.{saidOf, saying, taking, RowTakes, LineWritten, CallerRoundTrip, PlaceTold}
 use Rattle.caller.proofs.Records.{reader-back}
 
--- what a caller's arrays can hold of a call from the record r: a body's length and a refusal's number are above 0, the first CRC byte is a byte, and
--- refusals 2, 3 and 5 leave the record
+-- what a caller's arrays can hold of a call from the record r: a body's length and a refusal's number are above 0, a refusal without a place is not 4,
+-- the first CRC byte is a byte, and refusals 2, 3 and 5 leave the record
 abbrev FairBy : Reader → Reader → Said → Type 0
 FairBy r r′ more = FirstByte r′
 FairBy r r′ (body n) = (0 < n) × FirstByte r′
-FairBy r r′ (refused n) = (0 < n) × (keepsRecord n ≡ true → r′ ≡ r) × FirstByte r′
+FairBy r r′ (refused n) = (0 < n) × (eqb n 4 ≡ false) × (keepsRecord n ≡ true → r′ ≡ r) × FirstByte r′
+FairBy r r′ (badText i) = FirstByte r′
 
 abbrev Fair : Reader → Outcome → Type 0
 Fair r o = FairBy r (o .reader) (o .says)
 
 -- a refusal that drops the packet
-dropped : (r : Reader) (n : ℕ) (p : List ℕ) → 0 < n → keepsRecord n ≡ false → Fair r (dropping n p)
-dropped r n p h e = (h, (λ f. absurd (true≢false (sym f ∙ e))), tt)
+dropped : (r : Reader) (n : ℕ) (p : List ℕ) → 0 < n → eqb n 4 ≡ false → keepsRecord n ≡ false → Fair r (dropping n p)
+dropped r n p h k e = (h, k, (λ f. absurd (true≢false (sym f ∙ e))), tt)
 
 -- a refusal that keeps the record
-kept : (r : Reader) (n : ℕ) (p : List ℕ) → 0 < n → FirstByte r → Fair r (keeping n r p)
-kept r n p h b = (h, (λ f. refl), b)
+kept : (r : Reader) (n : ℕ) (p : List ℕ) → 0 < n → eqb n 4 ≡ false → FirstByte r → Fair r (keeping n r p)
+kept r n p h k b = (h, k, (λ f. refl), b)
 
 -- the CRC bytes that have come are bytes
 crc-bytes : (total come first : ℕ) (x : List ℕ) → first < 256 → Bytes x → Bytes (crcBytes total come first x)
@@ -86,46 +90,46 @@ waits total come first x h b =
 fair-absorb : (r : Reader) (total come first : ℕ) (x p : List ℕ) → 10 ≤ total → first < 256 → Bytes x → Fair r (absorb total come first x p)
 unfolding absorb completed both
 fair-absorb r total come first x p h f b =
-    pick-case (Fair r) (ltb (length p) (total - 2)) _ _ (λ e. dropped r 7 p (lit< tt) refl)
-    (λ e. pick-case (Fair r) (ltb total (come + length x)) _ _ (λ e. dropped r 8 p (lit< tt) refl)
+    pick-case (Fair r) (ltb (length p) (total - 2)) _ _ (λ e. dropped r 7 p (lit< tt) refl refl)
+    (λ e. pick-case (Fair r) (ltb total (come + length x)) _ _ (λ e. dropped r 8 p (lit< tt) refl refl)
     (λ e. pick-case (Fair r) (ltb (come + length x) total) _ _ (λ e. waits total come first x f b)
     (λ e. pick-case (Fair r) (eqb (ofBe16 (crcBytes total come first x)) (crcOf (take (total - 2) (filled total come x p)))) _ _
-    (λ e. (omega arith, tt)) (λ e. dropped r 9 p (lit< tt) refl))))
+    (λ e. (omega arith, tt)) (λ e. dropped r 9 p (lit< tt) refl refl))))
 
 -- an initial frame
 fair-begin : (r : Reader) (raw p : List ℕ) → Bytes raw → Fair r (begin raw p)
 unfolding begin both
 fair-begin r raw p b =
-    pick-case (Fair r) (ltb (length raw) 2) _ _ (λ e. dropped r 6 p (lit< tt) refl)
-    (λ e. pick-case (Fair r) (ltb (ofBe16 raw) 10) _ _ (λ e. dropped r 6 p (lit< tt) refl)
+    pick-case (Fair r) (ltb (length raw) 2) _ _ (λ e. dropped r 6 p (lit< tt) refl refl)
+    (λ e. pick-case (Fair r) (ltb (ofBe16 raw) 10) _ _ (λ e. dropped r 6 p (lit< tt) refl refl)
     (λ e. fair-absorb r (ofBe16 raw) 0 0 (drop 2 raw) p (ltb-false (ofBe16 raw) 10 e) (lit< tt) (bytes-drop 2 raw b)))
 
 -- a partial frame
 fair-resume : (r : Reader) (raw p : List ℕ) → FirstByte r → Bytes raw → Fair r (resume r raw p)
 unfolding resume possible
-fair-resume Idle raw p h b = kept Idle 5 p (lit< tt) tt
+fair-resume Idle raw p h b = kept Idle 5 p (lit< tt) refl tt
 fair-resume (Open total come first) raw p h b =
     pick-case (Fair (Open total come first)) (both (leb 10 total) (both (leb total 65535) (ltb come total))) _ _
     (λ e. fair-absorb (Open total come first) total come first raw p
     (leb-true 10 total (both-true (leb 10 total) (both (leb total 65535) (ltb come total)) e .0)) h b)
-    (λ e. kept (Open total come first) 5 p (lit< tt) h)
+    (λ e. kept (Open total come first) 5 p (lit< tt) refl h)
 
 -- any line
 fair-line : (r : Reader) (line p : List ℕ) → FirstByte r → Fair r (takeLine r line p)
-unfolding takeLine begun resumed both
+unfolding takeLine decoded both
 fair-line r line p h =
-    pick-case (Fair r) (ltb longest (length line)) _ _ (λ e. kept r 2 p (lit< tt) h)
-    (λ e. pick-case (Fair r) (ltb (length line) 3) _ _ (λ e. kept r 3 p (lit< tt) h)
-    (λ e. pick-case (Fair r) (not (ended line)) _ _ (λ e. kept r 3 p (lit< tt) h)
+    pick-case (Fair r) (ltb longest (length line)) _ _ (λ e. kept r 2 p (lit< tt) refl h)
+    (λ e. pick-case (Fair r) (ltb (length line) 3) _ _ (λ e. kept r 3 p (lit< tt) refl h)
+    (λ e. pick-case (Fair r) (not (ended line)) _ _ (λ e. kept r 3 p (lit< tt) refl h)
     (λ e. pick-case (Fair r) (beginsWith initial line) _ _ (λ e. first (decode (textOf line)) refl)
-    (λ e. pick-case (Fair r) (beginsWith partial line) _ _ (λ e. later (decode (textOf line)) refl) (λ e. kept r 3 p (lit< tt) h)))))
+    (λ e. pick-case (Fair r) (beginsWith partial line) _ _ (λ e. later (decode (textOf line)) refl) (λ e. kept r 3 p (lit< tt) refl h)))))
   where
-    first : (t : Option (List ℕ)) → decode (textOf line) ≡ t → Fair r (begun t p)
-    first none e = dropped r 4 p (lit< tt) refl
+    first : (t : Option (List ℕ)) → decode (textOf line) ≡ t → Fair r (decoded true r (placeIn line) t p)
+    first none e = tt
     first (some raw) e = fair-begin r raw p (decode-bytes (textOf line) raw e)
 
-    later : (t : Option (List ℕ)) → decode (textOf line) ≡ t → Fair r (resumed t r p)
-    later none e = dropped r 4 p (lit< tt) refl
+    later : (t : Option (List ℕ)) → decode (textOf line) ≡ t → Fair r (decoded false r (placeIn line) t p)
+    later none e = tt
     later (some raw) e = fair-resume r raw p h (decode-bytes (textOf line) raw e)
 
 -- a record that is read from the array holds a byte
@@ -135,42 +139,61 @@ array-byte r =
     pick-case FirstByte (eqb (getD r 0 0) 0) _ _ (λ e. tt)
     (λ e. pick-case FirstByte (ltb 255 (getD r 3 0)) _ _ (λ e. lit< tt) (λ e. let h = ltb-false 255 (getD r 3 0) e in omega arith))
 
--- one call, by what the reader said: its result and *body mean that, and the array stands for the reader's record
+-- one call, by what the reader said: its result, *body and *place mean that, and the array stands for the reader's record
 pub record Means (t : TookLine) (o : Outcome) : Type 0 where
-  pub says : saidOf (t .result) (t .body) ≡ o .says
+  pub says : saidOf (t .result) (t .body) (t .place) ≡ o .says
   pub reader : readerOf (t .record-after) ≡ o .reader
   pub packet : t .packet ≡ o .buffer
 
-means : (r : List ℕ) (b : ℕ) (reader : Reader) (p : List ℕ) (a : Said) → FairBy (readerOf r) reader a
-    → Means (tookBy r b reader p a) (record { says = a; reader = reader; buffer = p })
+means : (r : List ℕ) (b i : ℕ) (reader : Reader) (p : List ℕ) (a : Said) → FairBy (readerOf r) reader a
+    → Means (tookBy r b i reader p a) (record { says = a; reader = reader; buffer = p })
 unfolding tookBy saidOf
-means r b reader p more h = record { says = rw (pick-yes, pick-yes); reader = reader-back reader h; packet = refl }
-means r b reader p (body n) h =
+means r b i reader p more h = record { says = rw (pick-yes, pick-yes); reader = reader-back reader h; packet = refl }
+means r b i reader p (body n) h =
     record { says = rw (pick-yes, ne-eqb n 0 (λ e. omega (arith, h .0, e)), pick-no); reader = reader-back reader (h .1); packet = refl }
-means r b reader p (refused n) h =
+means r b i reader p (refused n) h =
     record {
-      says = rw (ne-eqb n 0 (λ e. omega (arith, h .0, e)), pick-no);
-      reader = pick-case (λ (s : List ℕ). readerOf s ≡ reader) (keepsRecord n) _ _ (λ e. sym (h .1 e)) (λ e. reader-back reader (h .2));
+      says = rw (ne-eqb n 0 (λ e. omega (arith, h .0, e)), pick-no, h .1, pick-no);
+      reader = pick-case (λ (s : List ℕ). readerOf s ≡ reader) (keepsRecord n) _ _ (λ e. sym (h .2 e)) (λ e. reader-back reader (h .3));
       packet = refl;
     }
+means r b i reader p (badText j) h = record { says = rw (pick-no, pick-yes); reader = reader-back reader h; packet = refl }
 
 -- one call
-pub one-line : (r line p : List ℕ) (b : ℕ) → Means (tookLine r line p b) (takeLine (readerOf r) line p)
+pub one-line : (r line p : List ℕ) (b i : ℕ) → Means (tookLine r line p b i) (takeLine (readerOf r) line p)
 unfolding tookLine
-one-line r line p b =
+one-line r line p b i =
     let o : Outcome = takeLine (readerOf r) line p in
-    means r b (o .reader) (o .buffer) (o .says) (fair-line (readerOf r) line p (array-byte r))
+    means r b i (o .reader) (o .buffer) (o .says) (fair-line (readerOf r) line p (array-byte r))
 
 -- a row of calls takes the lines as the reader does
 pub row-takes : RowTakes
 unfolding taking saying feed lines.saying
-row-takes [] r p b = refl
-row-takes (line ∷ rest) r p b =
-    let t : TookLine = tookLine r line p b in
-    let m = one-line r line p b in
+row-takes [] r p b i = refl
+row-takes (line ∷ rest) r p b i =
+    let t : TookLine = tookLine r line p b i in
+    let m = one-line r line p b i in
     let o : Outcome = takeLine (readerOf r) line p in
-    ap₂ lines.saying (m .says) (row-takes rest (t .record-after) (t .packet) (t .body))
+    ap₂ lines.saying (m .says) (row-takes rest (t .record-after) (t .packet) (t .body) (t .place))
     ∙ ap₂ (λ (k : Reader) (q : List ℕ). lines.saying (o .says) (feed rest k q)) (m .reader) (m .packet)
+
+-- the place of one call, by what the reader said
+placed : (r line p : List ℕ) (b i : ℕ) (reader : Reader) (q : List ℕ) (a : Said) → FairBy (readerOf r) reader a
+    → takeLine (readerOf r) line p .says ≡ a
+    → (tookBy r b i reader q a .result ≡ 4 → PlaceIn line (tookBy r b i reader q a .place))
+    × ((tookBy r b i reader q a .result ≡ 4 → ⊥) → tookBy r b i reader q a .place ≡ i)
+unfolding tookBy
+placed r line p b i reader q more h e = ((λ f. absurd (omega (arith, f))), λ f. refl)
+placed r line p b i reader q (body n) h e = ((λ f. absurd (omega (arith, f))), λ f. refl)
+placed r line p b i reader q (refused n) h e = ((λ f. absurd (true≢false (sym (eq-eqb n 4 f) ∙ h .1))), λ f. refl)
+placed r line p b i reader q (badText j) h e = ((λ f. place-given (readerOf r) line p j e), λ f. absurd (f refl))
+
+-- bg_take_line gives a place with refusal 4 alone, that of the paper's sentence
+pub place-told : PlaceTold
+unfolding tookLine
+place-told r line p b i =
+    let o : Outcome = takeLine (readerOf r) line p in
+    placed r line p b i (o .reader) (o .buffer) (o .says) (fair-line (readerOf r) line p (array-byte r)) refl
 
 -- a refusal of the sender has a number above 0
 abbrev Numbered : sending.Told → Type 0
@@ -201,5 +224,5 @@ line-written s k out sent e = line-by s k out sent (sendFrame s k out .says) (nu
 
 -- a body that was sent as lines is read back
 pub caller-round-trip : CallerRoundTrip
-caller-round-trip s r p b lines says bytes low high room amid =
-    row-takes lines r p b ∙ round-trip s p (readerOf r) lines says bytes low high room amid
+caller-round-trip s r p b i lines says bytes low high room amid =
+    row-takes lines r p b i ∙ round-trip s p (readerOf r) lines says bytes low high room amid

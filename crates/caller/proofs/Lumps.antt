@@ -183,23 +183,23 @@ caller-lumps c lumps hs r held p given =
 -- what is said to what was handed on is what the reader says
 pub row-hears : RowHears
 unfolding hearing hear row-lines.saying reader-lines.saying
-row-hears [] r p b = refl
-row-hears (line l ∷ hs) r p b =
-    let t : TookLine = tookLine r l p b in
-    let m = one-line r l p b in
+row-hears [] r p b i = refl
+row-hears (line l ∷ hs) r p b i =
+    let t : TookLine = tookLine r l p b i in
+    let m = one-line r l p b i in
     let o : reading.Outcome = reading.takeLine (readerOf r) l p in
-    ap₂ reader-lines.saying (m .says) (row-hears hs (t .record-after) (t .packet) (t .body))
+    ap₂ reader-lines.saying (m .says) (row-hears hs (t .record-after) (t .packet) (t .body) (t .place))
     ∙ ap₂ (λ (k : Reader) (q : List ℕ). reader-lines.saying (o .says) (hear hs k q)) (m .reader) (m .packet)
-row-hears (refused n ∷ hs) r p b = ap (λ (x : reader-lines.Run). reader-lines.saying (reading.refused n) x) (row-hears hs r p b)
+row-hears (refused n ∷ hs) r p b i = ap (λ (x : reader-lines.Run). reader-lines.saying (reading.refused n) x) (row-hears hs r p b i)
 
 pub caller-hears : CallerHears
-caller-hears r p b lumps hs record-after held given =
-    by-steps empty lumps hs record-after held _ (λ d steps er eh. row-hears hs r p b ∙ lumps-heard lumps hs d (readerOf r) p steps)
+caller-hears r p b i lumps hs record-after held given =
+    by-steps empty lumps hs record-after held _ (λ d steps er eh. row-hears hs r p b i ∙ lumps-heard lumps hs d (readerOf r) p steps)
     (lumped-went _ _ lumps hs record-after held given empty refl refl possible-empty)
 
 pub caller-lumped-round-trip : CallerLumpedRoundTrip
-caller-lumped-round-trip s r p b lines says lumps hs record-after held bytes least most room amid whole same given =
+caller-lumped-round-trip s r p b i lines says lumps hs record-after held bytes least most room amid whole same given =
     by-steps empty lumps hs record-after held _
     (λ d steps er eh. let w = lumped-round-trip s p (readerOf r) lines says lumps hs d bytes least most room amid whole same steps in
-    (row-hears hs r p b ∙ w .0, er ∙ ap collectorNumbers (w .1), eh ∙ ap (λ (x : Collector). x .held) (w .1)))
+    (row-hears hs r p b i ∙ w .0, er ∙ ap collectorNumbers (w .1), eh ∙ ap (λ (x : Collector). x .held) (w .1)))
     (lumped-went _ _ lumps hs record-after held given empty refl refl possible-empty)

@@ -28,6 +28,6 @@ linesTo (e ∷ es) = pick (e .toController) 1 0 + linesTo es
 abbrev pub ReplayPrinted : Type 0
 ReplayPrinted =
     (b : Bench) (answers : List ℕ) (count : ℕ) (file : List ℕ) (es : List Entry) (s : Session) → recordsOf file ≡ some es
-    → 3 * length es ≤ length answers
+    → 4 * length es ≤ length answers
     → (replayed b answers count file .count ≡ linesTo es)
     × (transcript (replayed b answers count file .answers) (replayed b answers count file .count) s ≡ printed 0 (fed es (fresh b) .says) ++ endText s)

@@ -8,7 +8,8 @@ use lib.Dec.{eqb}
 use lib.ListN.{length, getD, take}
 use Rattle.laws.specs.Choice.{pick}
 use Rattle.laws.specs.Bytes.{Bytes}
-use Rattle.reader.specs.Reader.{Said, more, body, refused}
+use Rattle.reader.specs.Reader.{Said, more, body, refused, badText}
+use Rattle.reader.specs.Place.{PlaceIn}
 use Rattle.reader.specs.Lines.{Run, feed, Amid}
 use Rattle.sender.specs.Sender.{frameCount, frameOf}
 use Rattle.roundtrip.specs.RoundTrip.{frames, answers, readBack}
@@ -16,9 +17,9 @@ use Rattle.records.specs.Records.{readerOf}
 use Rattle.records.specs.Results.{TookLine}
 use Rattle.line_calls.specs.Calls.{tookLine, sentFrame}
 
--- what a result of bg_take_line and *body mean together
-unfoldable pub saidOf : ℕ → ℕ → Said
-saidOf result n = pick (eqb result 0) (pick (eqb n 0) more (body n)) (refused result)
+-- what a result of bg_take_line, *body and *place mean together
+unfoldable pub saidOf : ℕ → ℕ → ℕ → Said
+saidOf result n i = pick (eqb result 0) (pick (eqb n 0) more (body n)) (pick (eqb result 4) (badText i) (refused result))
 
 -- what a row of calls leaves: what each said, the record and the packet buffer
 pub record Row : Type 0 where
@@ -31,19 +32,19 @@ unfoldable pub saying : Said → Row → Row
 saying a row = record { says = a ∷ row .says; reader = row .reader; packet = row .packet }
 
 -- the lines of a row taken in order, each call handed what the one before it left
-unfoldable pub taking : List (List ℕ) → List ℕ → List ℕ → ℕ → Row
-taking [] r p b = record { says = []; reader = r; packet = p }
-taking (line ∷ lines) r p b =
-    let t : TookLine = tookLine r line p b in
-    saying (saidOf (t .result) (t .body)) (taking lines (t .record-after) (t .packet) (t .body))
+unfoldable pub taking : List (List ℕ) → List ℕ → List ℕ → ℕ → ℕ → Row
+taking [] r p b i = record { says = []; reader = r; packet = p }
+taking (line ∷ lines) r p b i =
+    let t : TookLine = tookLine r line p b i in
+    saying (saidOf (t .result) (t .body) (t .place)) (taking lines (t .record-after) (t .packet) (t .body) (t .place))
 
 -- what a row stands for
 abbrev pub runIn : Row → Run
 runIn row = record { says = row .says; reader = readerOf (row .reader); buffer = row .packet }
 
--- a row of calls takes the lines as the reader does, from any record and numbers at first
+-- a row of calls takes the lines as the reader does, from any record and numbers at first; the places of bad text are the reader's
 abbrev pub RowTakes : Type 0
-RowTakes = (lines : List (List ℕ)) (r p : List ℕ) (b : ℕ) → runIn (taking lines r p b) ≡ feed lines (readerOf r) p
+RowTakes = (lines : List (List ℕ)) (r p : List ℕ) (b i : ℕ) → runIn (taking lines r p b i) ≡ feed lines (readerOf r) p
 
 -- where bg_send_frame returns 0, the first sent[0] bytes of its output are the frame, and sent[1] is the frame count
 abbrev pub LineWritten : Type 0
@@ -55,6 +56,13 @@ LineWritten =
 -- a body that was sent as lines is read back, with noise anywhere among the lines
 abbrev pub CallerRoundTrip : Type 0
 CallerRoundTrip =
-    (s r p : List ℕ) (b : ℕ) (lines : List (List ℕ)) (says : List Said) → Bytes s → 8 ≤ length s → length s ≤ 65533 → length s ≤ length p
+    (s r p : List ℕ) (b i : ℕ) (lines : List (List ℕ)) (says : List Said) → Bytes s → 8 ≤ length s → length s ≤ 65533 → length s ≤ length p
     → Amid (frames s) (answers s) lines says
-    → runIn (taking lines r p b) ≡ readBack says s p
+    → runIn (taking lines r p b i) ≡ readBack says s p
+
+-- bg_take_line gives a place with refusal 4 alone, and it is that of the paper's sentence; else *place stays
+abbrev pub PlaceTold : Type 0
+PlaceTold =
+    (r line p : List ℕ) (b i : ℕ)
+    → (tookLine r line p b i .result ≡ 4 → PlaceIn line (tookLine r line p b i .place))
+    × ((tookLine r line p b i .result ≡ 4 → ⊥) → tookLine r line p b i .place ≡ i)

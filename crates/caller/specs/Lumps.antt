@@ -49,29 +49,29 @@ CallerLumps =
     → (hs ≡ stream c (joined lumps) .handed) × (r ≡ collectorNumbers (stream c (joined lumps) .collector)) × (held ≡ stream c (joined lumps) .collector .held)
 
 -- what is said to what was handed on: bg_take_line takes each line; a refusal stands for itself
-unfoldable pub hearing : List Handed → List ℕ → List ℕ → ℕ → Row
-hearing [] r p b = record { says = []; reader = r; packet = p }
-hearing (line l ∷ hs) r p b =
-    let t : TookLine = tookLine r l p b in
-    saying (saidOf (t .result) (t .body)) (hearing hs (t .record-after) (t .packet) (t .body))
-hearing (refused n ∷ hs) r p b = saying (reading.refused n) (hearing hs r p b)
+unfoldable pub hearing : List Handed → List ℕ → List ℕ → ℕ → ℕ → Row
+hearing [] r p b i = record { says = []; reader = r; packet = p }
+hearing (line l ∷ hs) r p b i =
+    let t : TookLine = tookLine r l p b i in
+    saying (saidOf (t .result) (t .body) (t .place)) (hearing hs (t .record-after) (t .packet) (t .body) (t .place))
+hearing (refused n ∷ hs) r p b i = saying (reading.refused n) (hearing hs r p b i)
 
 -- it is what the reader says, from any record and numbers at first
 abbrev pub RowHears : Type 0
-RowHears = (hs : List Handed) (r p : List ℕ) (b : ℕ) → runIn (hearing hs r p b) ≡ hear hs (readerOf r) p
+RowHears = (hs : List Handed) (r p : List ℕ) (b i : ℕ) → runIn (hearing hs r p b i) ≡ hear hs (readerOf r) p
 
 -- to a stream that comes in lumps, from an empty record on, it is what the reader says to the stream's own lines, however long they are
 abbrev pub CallerHears : Type 0
 CallerHears =
-    (r p : List ℕ) (b : ℕ) (lumps : List (List ℕ)) (hs : List Handed) (record-after held : List ℕ)
+    (r p : List ℕ) (b i : ℕ) (lumps : List (List ℕ)) (hs : List Handed) (record-after held : List ℕ)
     → Lumped (collectorNumbers empty) (empty .held) lumps hs record-after held
-    → runIn (hearing hs r p b) ≡ feed (linesIn (cut (joined lumps))) (readerOf r) p
+    → runIn (hearing hs r p b i) ≡ feed (linesIn (cut (joined lumps))) (readerOf r) p
 
 -- a body's lines, with noise anywhere among them, sent as one stream that is lumped anyhow, are read back; and the collector is then empty
 abbrev pub CallerLumpedRoundTrip : Type 0
 CallerLumpedRoundTrip =
-    (s r p : List ℕ) (b : ℕ) (lines : List (List ℕ)) (says : List reading.Said) (lumps : List (List ℕ)) (hs : List Handed) (record-after held : List ℕ)
+    (s r p : List ℕ) (b i : ℕ) (lines : List (List ℕ)) (says : List reading.Said) (lumps : List (List ℕ)) (hs : List Handed) (record-after held : List ℕ)
     → Bytes s → 8 ≤ length s → length s ≤ 65533 → length s ≤ length p
     → Amid (frames s) (answers s) lines says → Whole lines → joined lumps ≡ joined lines
     → Lumped (collectorNumbers empty) (empty .held) lumps hs record-after held
-    → (runIn (hearing hs r p b) ≡ readBack says s p) × (record-after ≡ collectorNumbers empty) × (held ≡ empty .held)
+    → (runIn (hearing hs r p b i) ≡ readBack says s p) × (record-after ≡ collectorNumbers empty) × (held ≡ empty .held)

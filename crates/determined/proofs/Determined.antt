@@ -66,11 +66,13 @@ abbrev unsaid : reading.Said → Answer
 unsaid reading.more = Answer.More
 unsaid (reading.body n) = Answer.Packet n
 unsaid (reading.refused n) = Answer.Refused (refusalOf n)
+unsaid (reading.badText i) = Answer.BadText i
 
 unsaid-said : (a : Answer) → unsaid (reading.said a) ≡ a
 unsaid-said Answer.More = refl
 unsaid-said (Answer.Packet n) = refl
 unsaid-said (Answer.Refused r) = ap Answer.Refused (number-back r)
+unsaid-said (Answer.BadText i) = refl
 
 pub line-determined : LineDetermined
 line-determined =

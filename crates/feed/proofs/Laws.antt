@@ -25,27 +25,27 @@ pub answered-reply : (h : HandledC) (rc : ℕ) → h .result ≡ 0 → rc ≡ rc
 unfolding answered
 answered-reply h rc e f = rw (eq-eqb (h .result) 0 e, pick-yes, f)
 
-pub answered-refusal : (h : HandledC) → (h .result ≡ 0 → ⊥) → refusing (h .result) ≡ answered h
+pub answered-refusal : (h : HandledC) → (h .result ≡ 0 → ⊥) → refusing (h .result) 0 ≡ answered h
 unfolding answered
 answered-refusal h e = rw (ne-eqb (h .result) 0 e, pick-no)
 
 -- a line by what the reader gives
-fed-by : (b : Bench) (line : List ℕ) (t : TookLine) → t ≡ tookLine (b .reader) line (b .packet) 0 → goOn b t ≡ feedLine b line
+fed-by : (b : Bench) (line : List ℕ) (t : TookLine) → t ≡ tookLine (b .reader) line (b .packet) 0 0 → goOn b t ≡ feedLine b line
 unfolding feedLine
 fed-by b line t e = ap (goOn b) e
 
 -- its refusal, more is wanted, or a packet
-pub fed-refusal : (b : Bench) (line : List ℕ) (t : TookLine) → t ≡ tookLine (b .reader) line (b .packet) 0 → (t .result ≡ 0 → ⊥)
-    → _≡_ {A = Fed} (record { says = refusing (t .result); bench = took b t }) (feedLine b line)
+pub fed-refusal : (b : Bench) (line : List ℕ) (t : TookLine) → t ≡ tookLine (b .reader) line (b .packet) 0 0 → (t .result ≡ 0 → ⊥)
+    → _≡_ {A = Fed} (record { says = refusing (t .result) (t .place); bench = took b t }) (feedLine b line)
 unfolding goOn
 fed-refusal b line t e f = rw (ne-eqb (t .result) 0 f, pick-no) at (fed-by b line t e)
 
-pub fed-more : (b : Bench) (line : List ℕ) (t : TookLine) → t ≡ tookLine (b .reader) line (b .packet) 0 → t .result ≡ 0 → t .body ≡ 0
+pub fed-more : (b : Bench) (line : List ℕ) (t : TookLine) → t ≡ tookLine (b .reader) line (b .packet) 0 0 → t .result ≡ 0 → t .body ≡ 0
     → _≡_ {A = Fed} (record { says = more; bench = took b t }) (feedLine b line)
 unfolding goOn
 fed-more b line t e f g = rw (eq-eqb (t .result) 0 f, pick-yes, eq-eqb (t .body) 0 g, pick-yes) at (fed-by b line t e)
 
-pub fed-packet : (b : Bench) (line : List ℕ) (t : TookLine) → t ≡ tookLine (b .reader) line (b .packet) 0 → t .result ≡ 0 → (t .body ≡ 0 → ⊥)
+pub fed-packet : (b : Bench) (line : List ℕ) (t : TookLine) → t ≡ tookLine (b .reader) line (b .packet) 0 0 → t .result ≡ 0 → (t .body ≡ 0 → ⊥)
     → handOver (took b t) (t .body) ≡ feedLine b line
 unfolding goOn
 fed-packet b line t e f g = rw (eq-eqb (t .result) 0 f, ne-eqb (t .body) 0 g, pick-yes, pick-no) at (fed-by b line t e)

@@ -24,15 +24,15 @@ pub record Bench : Type 0 where
 abbrev pub halves : List ℕ
 halves = 0 ∷ 4096 ∷ 4096 ∷ 4096 ∷ []
 
--- what is said of a line: nothing yet, a reply with this return code, or the refusal of this number
+-- what is said of a line: nothing yet, a reply with this return code, or the refusal of this number, with a place in the line or 0
 abbrev pub more : Answer
-more = record { refusal = 0; replied = 0; rc = 0 }
+more = record { refusal = 0; replied = 0; rc = 0; place = 0 }
 
 abbrev pub replying : ℕ → Answer
-replying n = record { refusal = 0; replied = 1; rc = n }
+replying n = record { refusal = 0; replied = 1; rc = n; place = 0 }
 
-abbrev pub refusing : ℕ → Answer
-refusing n = record { refusal = n; replied = 0; rc = 0 }
+abbrev pub refusing : ℕ → ℕ → Answer
+refusing n i = record { refusal = n; replied = 0; rc = 0; place = i }
 
 -- what is said of a line, and what it leaves
 pub record Fed : Type 0 where
@@ -49,7 +49,7 @@ handed b h = record { memory = h .memory; session = h .session; tag = h .tag; re
 
 -- what is said of a packet by what the request call gives: its refusal, or the return code of its reply
 unfoldable pub answered : HandledC → Answer
-answered h = pick (eqb (h .result) 0) (replying (rcIn (take (getD (h .answer) 0 0) (h .reply)))) (refusing (h .result))
+answered h = pick (eqb (h .result) 0) (replying (rcIn (take (getD (h .answer) 0 0) (h .reply)))) (refusing (h .result) 0)
 
 -- a packet of n bytes at the packet buffer's start goes to the request call
 unfoldable pub handOver : Bench → ℕ → Fed
@@ -61,13 +61,13 @@ handOver b n =
 abbrev pub took : Bench → TookLine → Bench
 took b t = record { memory = b .memory; session = b .session; tag = b .tag; reader = t .record-after; packet = t .packet; reply = b .reply }
 
--- a line by what the reader gives: its refusal, more is wanted, or a packet of so many bytes
+-- a line by what the reader gives: its refusal with the place, more is wanted, or a packet of so many bytes
 unfoldable pub goOn : Bench → TookLine → Fed
 goOn b t =
     pick (eqb (t .result) 0)
     (pick (eqb (t .body) 0) (record { says = more; bench = took b t }) (handOver (took b t) (t .body)))
-    (record { says = refusing (t .result); bench = took b t })
+    (record { says = refusing (t .result) (t .place); bench = took b t })
 
--- one line: it goes to the reader
+-- one line: it goes to the reader, with *body and *place 0
 unfoldable pub feedLine : Bench → List ℕ → Fed
-feedLine b line = goOn b (tookLine (b .reader) line (b .packet) 0)
+feedLine b line = goOn b (tookLine (b .reader) line (b .packet) 0 0)

@@ -16,6 +16,8 @@ pub struct Answer {
     pub replied: u32,
     // The reply's return code, or 0.
     pub rc: u32,
+    // The place in a line that is refused for its text, or 0.
+    pub place: u32,
 }
 
 // How many of its first n bytes a slice has.
@@ -84,6 +86,7 @@ fn hand_over(
             refusal,
             replied: 0,
             rc: 0,
+            place: 0,
         };
     }
     let rc = rc_of(reply, told[0]);
@@ -91,6 +94,7 @@ fn hand_over(
         refusal: 0,
         replied: 1,
         rc,
+        place: 0,
     }
 }
 
@@ -124,12 +128,14 @@ pub fn feed_line(
     }) (now (line .entry)) ⌝ }
 {
     let mut body = 0u32;
-    let refusal = line_calls::take_line(reader, line, packet, &mut body);
+    let mut place = 0u32;
+    let refusal = line_calls::take_line(reader, line, packet, &mut body, &mut place);
     if refusal != 0 {
         return Answer {
             refusal,
             replied: 0,
             rc: 0,
+            place,
         };
     }
     if body == 0 {
@@ -137,6 +143,7 @@ pub fn feed_line(
             refusal: 0,
             replied: 0,
             rc: 0,
+            place: 0,
         };
     }
     hand_over(memory, session, tag, packet, body, reply)

@@ -5,9 +5,9 @@ use Prim.Native.Nat.{ℕ, zero, suc, _+_, _-_, _≤_, _<_}
 use native.Mathlib.Nat.{zero-add, add-zero}
 use native.Mathlib.Omega.{arith}
 use mathlib.Core.List.{List, [], _∷_, _++_, append-assoc, append-nil}
-use native.Mathlib.Numerals.{add-one}
+use native.Mathlib.Numerals.{add-one, add-two, add-three}
 use lib.ListN.{length, take, drop, set, length-set, length-append, length-take, length-drop, take-append-drop, drop-of-length-le}
-use lib.Seq.{take-length, take-append-add, drop-append-add, drop-drop, take-all, take-at, set-split}
+use lib.Seq.{take-length, take-append-add, drop-append-add, drop-drop, take-all, take-at, set-split, sets-eq}
 use mathlib.Core.Bool.{Bool, true, false, false≢true}
 use lib.Dec.{eqb, lit<}
 use borrow.Author.Tests.{eqb-true, eq-eqb}
@@ -115,6 +115,13 @@ set-twice-pasted m at v w h =
     set-pasted (set m at v) (at + 1) w (simp length-set h)
     ∙ ap (λ (l : List ℕ). pasted l (at + 1) (w ∷ [])) (set-pasted m at v (omega arith))
     ∙ pasted-twice m at (v ∷ []) (w ∷ []) (omega arith)
+
+-- and four are four
+pub set-four-pasted : (m : List ℕ) (at u v w x : ℕ) → at + 4 ≤ length m
+    → set (set (set (set m at u) (at + 1) v) (at + 2) w) (at + 3) x ≡ pasted m at (u ∷ v ∷ w ∷ x ∷ [])
+unfolding pasted
+set-four-pasted m at u v w x h =
+    rw (add-one, add-two, add-three) (sets-eq (u ∷ v ∷ w ∷ x ∷ []) m at h ∙ append-assoc (take at m) (u ∷ v ∷ w ∷ x ∷ []) (drop (at + 4) m))
 
 -- bytes: of the empty list, of one more, of a part, of two joined
 pub bytes-none : Bytes []

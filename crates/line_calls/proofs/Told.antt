@@ -16,11 +16,11 @@ use Rattle.records.specs.Results.{tookBy, stepResult, stepLength, wentOn}
 use Rattle.line_calls.specs.Calls.{tookLine, collectedBy, collectedC}
 
 -- a line
-pub took-is : (r line p : List ℕ) (b : ℕ) (t : Taken) (p′ : List ℕ) (before : Reader) → before ≡ readerOf r → reading.outcome t p′
-    ≡ reading.takeLine before line p → tookLine r line p b ≡ tookBy r b (t .reader) p′ (reading.said (t .answer))
+pub took-is : (r line p : List ℕ) (b i : ℕ) (t : Taken) (p′ : List ℕ) (before : Reader) → before ≡ readerOf r → reading.outcome t p′
+    ≡ reading.takeLine before line p → tookLine r line p b i ≡ tookBy r b i (t .reader) p′ (reading.said (t .answer))
 unfolding tookLine
-took-is r line p b t p′ before e f =
-    ap (λ (o : reading.Outcome). tookBy r b (o .reader) (o .buffer) (o .says)) (sym (f ∙ ap (λ (k : Reader). reading.takeLine k line p) e))
+took-is r line p b i t p′ before e f =
+    ap (λ (o : reading.Outcome). tookBy r b i (o .reader) (o .buffer) (o .says)) (sym (f ∙ ap (λ (k : Reader). reading.takeLine k line p) e))
 
 -- a step that went on, and one that did not
 pub went : (r held got lump line : List ℕ) (at : ℕ) (c : Collector) (t : Step) (after numbers bytes : List ℕ) (result n : ℕ)

@@ -34,10 +34,10 @@ unfoldable pub collectedC : List ℕ → List ℕ → List ℕ → ℕ → List 
 collectedC r held lump at line got = collectedBy r held got (collecting.collect (collectorOf r held) lump at line)
 
 -- bg_take_line: by what the reader said of the record that was lent
-unfoldable pub tookLine : List ℕ → List ℕ → List ℕ → ℕ → TookLine
-tookLine r line p b =
+unfoldable pub tookLine : List ℕ → List ℕ → List ℕ → ℕ → ℕ → TookLine
+tookLine r line p b i =
     let o : reading.Outcome = reading.takeLine (readerOf r) line p in
-    tookBy r b (o .reader) (o .buffer) (o .says)
+    tookBy r b i (o .reader) (o .buffer) (o .says)
 
 -- bg_send_frame: the result, the output and the two numbers
 pub record SentFrame : Type 0 where

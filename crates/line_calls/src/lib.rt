@@ -4,13 +4,24 @@ ghost use mathlib.Core.Path.{_≡_};
 ghost use Rattle.line_calls.specs.Calls.{collectedC, tookLine, sentFrame};
 
 // Takes one line.
-pub fn take_line(record: &mut [u32; 4], line: &[u8], packet: &mut [u8], body: &mut u32) -> u32
-    ensures { λ r. ⌜ record { result = r; record-after = now («record» .exit); packet = now (packet .exit); body = now (body .exit) }
-        ≡ tookLine (now («record» .entry)) (now (line .entry)) (now (packet .entry)) (now (body .entry)) ⌝ }
+pub fn take_line(
+    record: &mut [u32; 4],
+    line: &[u8],
+    packet: &mut [u8],
+    body: &mut u32,
+    place: &mut u32,
+) -> u32
+    ensures { λ r. ⌜ record {
+      result = r;
+      record-after = now («record» .exit);
+      packet = now (packet .exit);
+      body = now (body .exit);
+      place = now (place .exit);
+    } ≡ tookLine (now («record» .entry)) (now (line .entry)) (now (packet .entry)) (now (body .entry)) (now (place .entry)) ⌝ }
 {
     let before = records::reader_from(record[0], record[1], record[2], record[3]);
     let taken = reader::take_line(before, line, packet);
-    records::told_line(taken, record, body)
+    records::told_line(taken, record, body, place)
 }
 
 // Goes on in a lump, to the end of the next line or to the lump's end.

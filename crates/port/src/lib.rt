@@ -16,11 +16,17 @@ pub extern "C" fn bg_take_line(
     line: &[u8],
     packet: &mut [u8],
     body: &mut u32,
+    place: &mut u32,
 ) -> u32
-    ensures { λ r. ⌜ record { result = r; record-after = now («record» .exit); packet = now (packet .exit); body = now (body .exit) }
-        ≡ tookLine (now («record» .entry)) (now (line .entry)) (now (packet .entry)) (now (body .entry)) ⌝ }
+    ensures { λ r. ⌜ record {
+      result = r;
+      record-after = now («record» .exit);
+      packet = now (packet .exit);
+      body = now (body .exit);
+      place = now (place .exit);
+    } ≡ tookLine (now («record» .entry)) (now (line .entry)) (now (packet .entry)) (now (body .entry)) (now (place .entry)) ⌝ }
 {
-    line_calls::take_line(record, line, packet, body)
+    line_calls::take_line(record, line, packet, body, place)
 }
 
 // Goes on in a lump, to the end of the next line or to the lump's end: see include/belagunthi.h.

@@ -2,7 +2,7 @@
 -- Assumes nothing.
 use mathlib.Core.Path.{_≡_, refl, sym, ap, _∙_}
 use mathlib.Core.Bool.{Bool, true, false}
-use mathlib.Core.Option.{none}
+use mathlib.Core.Option.{Option, none, some}
 use mathlib.Core.List.{List, _∷_, _++_}
 use Prim.Native.Nat.{ℕ, _+_, _-_, _≤_, _<_}
 use native.Mathlib.Omega.{arith}
@@ -19,8 +19,8 @@ use Rattle.base64.specs.Base64.{decode}
 use Rattle.frame.specs.Line.{longest, newline, initial, partial, marked, beginsWith, ended, textOf}
 use Rattle.reader.specs.declared.Reader.{Reader}
 use Rattle.reader.specs.declared.Reader.the-variants.{Idle, Open}
-use Rattle.reader.specs.Reader.{more, body, keeping, dropping, possible, bodyOf, crcBytes, filled, waiting, completed, absorb}
-use Rattle.reader.specs.Reader.{begin, resume, begun, resumed, framed, takeLine}
+use Rattle.reader.specs.Reader.{more, body, badText, keeping, dropping, possible, bodyOf, crcBytes, filled, waiting, completed, absorb}
+use Rattle.reader.specs.Reader.{begin, resume, framed, placeIn, decoded, takeLine}
 
 -- the CRC bytes stand in x after the body
 pub crc-in-frame : (total come first : ℕ) (x : List ℕ) (i : ℕ) → come ≤ total - 2 → getD (crcBytes total come first x) i 0 ≡ getD x (total - 2 - come + i) 0
@@ -139,11 +139,16 @@ pub begin-packet : (raw p : List ℕ) → 2 ≤ length raw → 10 ≤ ofBe16 raw
 unfolding begin
 begin-packet raw p h k = simp (le-ltb _ _ h, le-ltb _ _ k, pick-no)
 
--- a frame whose text is not well formed
-pub framed-bad : (initial : Bool) (r : Reader) (p : List ℕ) → framed initial r none p ≡ dropping 4 p
-unfolding begun resumed
-framed-bad true r p = refl
-framed-bad false r p = refl
+-- a frame whose text is not well formed, and one whose text stands for raw bytes
+pub decoded-bad : (first : Bool) (r : Reader) (i : ℕ) (t : Option (List ℕ)) (p : List ℕ) → t ≡ none
+    → decoded first r i t p ≡ record { says = badText i; reader = Idle; buffer = p }
+unfolding decoded
+decoded-bad first r i t p e = rw e refl
+
+pub decoded-good : (first : Bool) (r : Reader) (i : ℕ) (t : Option (List ℕ)) (raw p : List ℕ) → t ≡ some raw
+    → decoded first r i t p ≡ framed first r raw p
+unfolding decoded
+decoded-good first r i t raw p e = rw e refl
 
 -- a line's marker, by its two bytes
 pub marked-both : (a b : ℕ) (line : List ℕ) → getD line 0 0 ≡ a → eqb (getD line 1 0) b ≡ marked a b line
@@ -174,14 +179,14 @@ line-unended r line p h k e = simp (le-ltb _ _ k, le-ltb _ _ h, pick-no, ne-eqb 
 -- a line that passes these tests: by its marker, or with none
 module _ (r : Reader) (line p : List ℕ) (low : 3 ≤ length line) (high : length line ≤ longest) (end : getD line (length line - 1) 0 ≡ newline) where
   by-marker : takeLine r line p
-      ≡ pick (beginsWith initial line) (framed true r (decode (textOf line)) p)
-      (pick (beginsWith partial line) (framed false r (decode (textOf line)) p)
+      ≡ pick (beginsWith initial line) (decoded true r (placeIn line) (decode (textOf line)) p)
+      (pick (beginsWith partial line) (decoded false r (placeIn line) (decode (textOf line)) p)
       (keeping 3 r p))
   unfolding takeLine ended
   by-marker = simp (le-ltb _ _ high, le-ltb _ _ low, pick-no, eq-eqb _ _ end)
 
   pub line-framed : (first : Bool) → first ≡ beginsWith initial line → (first ≡ false → beginsWith partial line ≡ true)
-      → takeLine r line p ≡ framed first r (decode (textOf line)) p
+      → takeLine r line p ≡ decoded first r (placeIn line) (decode (textOf line)) p
   line-framed true e f = by-marker ∙ rw (← e, pick-yes)
   line-framed false e f = by-marker ∙ rw (← e, pick-no, f refl, pick-yes)
 

@@ -1,2 +1,4 @@
+pub mod Plain
 pub mod Laws
 pub mod Lines
+pub mod Placed

@@ -17,7 +17,8 @@ use Rattle.base64.specs.Base64.{decode}
 use Rattle.frame.specs.Line.{longest, initial, partial, beginsWith, ended, textOf}
 use Rattle.reader.specs.declared.Reader.{Reader}
 use Rattle.reader.specs.declared.Reader.the-variants.{Idle}
-use Rattle.reader.specs.Reader.{Said, more, body, refused, Outcome, keeping, completed, absorb, begin, resume, begun, resumed, takeLine}
+use Rattle.reader.specs.Reader.{Said, refused, Outcome, keeping, placeIn, decoded, takeLine}
+use Rattle.reader.proofs.Plain.{Plain, plain-framed}
 use Rattle.reader.specs.Lines.{saying, feed, NoiseStays, Amid, over, next, noise}
 
 -- an answer is refusal 2 or 3
@@ -28,43 +29,20 @@ Loud a = (a ≡ refused 2) ⊎ (a ≡ refused 3)
 abbrev Quiet : Outcome → Type 0
 Quiet o = Loud (o .says) → ⊥
 
--- the wish for more is no such refusal
-quiet-more : Loud more → ⊥
-quiet-more (inl e) = let z : _≡_ {A = ℕ} 0 1 = cc in omega arith
-quiet-more (inr e) = let z : _≡_ {A = ℕ} 0 1 = cc in omega arith
+-- a frame draws neither: its text is bad, or its raw bytes are taken or refused from 5 on
+quiet-plain : (a : Said) → Plain a → Loud a → ⊥
+quiet-plain a (inl e) (inl f) = let z : _≡_ {A = ℕ} 0 1 = cc in omega arith
+quiet-plain a (inl e) (inr f) = let z : _≡_ {A = ℕ} 0 1 = cc in omega arith
+quiet-plain a (inr (inl (n, e))) (inl f) = let z : _≡_ {A = ℕ} 0 1 = cc in omega arith
+quiet-plain a (inr (inl (n, e))) (inr f) = let z : _≡_ {A = ℕ} 0 1 = cc in omega arith
+quiet-plain a (inr (inr (n, e))) (inl f) = let z : n + 5 ≡ 2 = cc in omega arith
+quiet-plain a (inr (inr (n, e))) (inr f) = let z : n + 5 ≡ 3 = cc in omega arith
 
--- a body is none
-quiet-body : (n : ℕ) → Loud (body n) → ⊥
-quiet-body n (inl e) = let z : _≡_ {A = ℕ} 0 1 = cc in omega arith
-quiet-body n (inr e) = let z : _≡_ {A = ℕ} 0 1 = cc in omega arith
-
--- a refusal from 4 on is none
-quiet-refused : (n : ℕ) → Loud (refused (n + 4)) → ⊥
-quiet-refused n (inl e) = let z : n + 4 ≡ 2 = cc in omega arith
-quiet-refused n (inr e) = let z : n + 4 ≡ 3 = cc in omega arith
-
--- body and CRC bytes that come never draw them
-quiet-absorb : (total come first : ℕ) (x p : List ℕ) → Quiet (absorb total come first x p)
-unfolding absorb completed
-quiet-absorb total come first x p =
-    pick-case Quiet _ _ _ (λ e. quiet-refused 3)
-    (λ e. pick-case Quiet _ _ _ (λ e. quiet-refused 4)
-    (λ e. pick-case Quiet _ _ _ (λ e. quiet-more)
-    (λ e. pick-case Quiet _ _ _ (λ e. quiet-body (total - 2)) (λ e. quiet-refused 5))))
-
--- an initial frame never draws them
-quiet-begun : (t : Option (List ℕ)) (p : List ℕ) → Quiet (begun t p)
-unfolding begun begin
-quiet-begun none p = quiet-refused 0
-quiet-begun (some raw) p =
-    pick-case Quiet _ _ _ (λ e. quiet-refused 2)
-    (λ e. pick-case Quiet _ _ _ (λ e. quiet-refused 2) (λ e. quiet-absorb (ofBe16 raw) 0 0 (drop 2 raw) p))
-
--- a partial frame never draws them, where no packet is open
-quiet-resumed : (t : Option (List ℕ)) (p : List ℕ) → Quiet (resumed t Idle p)
-unfolding resumed resume
-quiet-resumed none p = quiet-refused 0
-quiet-resumed (some raw) p = quiet-refused 1
+quiet-decoded : (first : Bool) (r : Reader) (i : ℕ) (t : Option (List ℕ)) (p : List ℕ) → Quiet (decoded first r i t p)
+unfolding decoded
+quiet-decoded first r i none p (inl e) = let z : _≡_ {A = ℕ} 0 1 = cc in omega arith
+quiet-decoded first r i none p (inr e) = let z : _≡_ {A = ℕ} 0 1 = cc in omega arith
+quiet-decoded first r i (some raw) p l = quiet-plain _ (plain-framed first r raw p) l
 
 -- a call that gave refusal 2 or 3 was not quiet
 loud : (o : Outcome) (n : ℕ) → (n ≡ 2) ⊎ (n ≡ 3) → o .says ≡ refused n → Loud (o .says)
@@ -94,9 +72,10 @@ pub noise-stays : NoiseStays
 unfolding takeLine
 noise-stays line n r p h =
     let t : Option (List ℕ) = decode (textOf line) in
+    let i : ℕ = placeIn line in
     stays r p n (ltb longest (length line)) (ltb (length line) 3) (not (ended line)) (beginsWith initial line) (beginsWith partial line)
-    (begun t []) (resumed t Idle []) (begun t p) (resumed t r p)
-    (quiet-begun t []) (quiet-resumed t []) (h .0) (h .1)
+    (decoded true Idle i t []) (decoded false Idle i t []) (decoded true r i t p) (decoded false r i t p)
+    (quiet-decoded true Idle i t []) (quiet-decoded false Idle i t []) (h .0) (h .1)
 
 -- lists with one more element at their fronts are equal only where their rests are
 rest-is : (a b : Said) (x y : List Said) → a ∷ x ≡ b ∷ y → x ≡ y

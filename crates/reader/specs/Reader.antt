@@ -12,24 +12,28 @@ use Rattle.laws.specs.Bytes.{pasted, ofBe16}
 use Rattle.refusal.specs.Number.{numberOf}
 use Rattle.crc.specs.Crc.{crcOf}
 use Rattle.base64.specs.Base64.{decode}
+use Rattle.fault.specs.Fault.{placeOf}
 use Rattle.frame.specs.Line.{longest, initial, partial, beginsWith, ended, textOf}
 use Rattle.reader.specs.declared.Reader.{Reader}
 use Rattle.reader.specs.declared.Reader.the-variants.{Idle, Open}
 use Rattle.reader.specs.declared.Answer.{Answer}
-use Rattle.reader.specs.declared.Answer.the-variants.{More, Packet, Refused}
+use Rattle.reader.specs.declared.Answer.the-variants.{More, Packet, Refused, BadText}
 use Rattle.reader.specs.declared.Taken.{Taken}
 
--- what the reader says, in the paper's terms: more is wanted, a body of so many bytes, or the refusal of this number
+-- what the reader says, in the paper's terms: more is wanted, a body of so many bytes, the refusal of this number, or refusal 4 with its place in the
+-- line: "Refusal 4 now also gives a place in the line, from 0"
 pub data Said : Type 0 where
   more : Said
   body : ℕ → Said
   refused : ℕ → Said
+  badText : ℕ → Said
 
 -- each answer's meaning
 abbrev pub said : Answer → Said
 said More = more
 said (Packet n) = body n
 said (Refused r) = refused (numberOf r)
+said (BadText i) = badText i
 
 -- all that a call leaves: what it said, the record and the packet buffer
 pub record Outcome : Type 0 where
@@ -103,20 +107,19 @@ resume (Open total come first) raw p =
     pick (possible total come) (absorb total come first raw p)
     (keeping 5 (Open total come first) p)
 
--- an initial frame's text, decoded or not: refusal 4
-unfoldable pub begun : Option (List ℕ) → List ℕ → Outcome
-begun none p = dropping 4 p
-begun (some raw) p = begin raw p
+-- the raw bytes of a frame, by its marker: an initial one begins a packet, a partial one goes on with the open one
+abbrev pub framed : Bool → Reader → List ℕ → List ℕ → Outcome
+framed true r raw p = begin raw p
+framed false r raw p = resume r raw p
 
--- a partial frame's text, decoded or not
-unfoldable pub resumed : Option (List ℕ) → Reader → List ℕ → Outcome
-resumed none r p = dropping 4 p
-resumed (some raw) r p = resume r raw p
+-- the place in a line at which its text stops being the beginning of a well-formed one: behind the marker's two bytes
+unfoldable pub placeIn : List ℕ → ℕ
+placeIn line = placeOf (textOf line) + 2
 
--- a frame by its marker, its text decoded or not: an initial one begins a packet, a partial one goes on with the open one
-abbrev pub framed : Bool → Reader → Option (List ℕ) → List ℕ → Outcome
-framed true r text p = begun text p
-framed false r text p = resumed text r p
+-- a frame by what its text decodes to: nothing is refusal 4, with its place
+unfoldable pub decoded : Bool → Reader → ℕ → Option (List ℕ) → List ℕ → Outcome
+decoded first r i none p = record { says = badText i; reader = Idle; buffer = p }
+decoded first r i (some raw) p = framed first r raw p
 
 -- "The reader takes one line at a time.": refusals 2 and 3, then by its marker
 unfoldable pub takeLine : Reader → List ℕ → List ℕ → Outcome
@@ -124,6 +127,6 @@ takeLine r line p =
     pick (ltb longest (length line)) (keeping 2 r p)
     (pick (ltb (length line) 3) (keeping 3 r p)
     (pick (not (ended line)) (keeping 3 r p)
-    (pick (beginsWith initial line) (framed true r (decode (textOf line)) p)
-    (pick (beginsWith partial line) (framed false r (decode (textOf line)) p)
+    (pick (beginsWith initial line) (decoded true r (placeIn line) (decode (textOf line)) p)
+    (pick (beginsWith partial line) (decoded false r (placeIn line) (decode (textOf line)) p)
     (keeping 3 r p)))))

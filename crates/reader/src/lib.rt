@@ -3,7 +3,6 @@ use base64::Decoded;
 use refusal::Refusal;
 ghost use mathlib.Core.Path.{_≡_};
 ghost use mathlib.Core.List.{List};
-ghost use mathlib.Core.Option.{some};
 ghost use Prim.Native.Nat.{ℕ, _+_, _-_, _≤_, _<_};
 ghost use lib.ListN.{length, getD, take};
 ghost use Rattle.laws.specs.Bytes.{ofBe16};
@@ -11,7 +10,8 @@ ghost use Rattle.crc.specs.Crc.{crcOf};
 ghost use Rattle.base64.specs.Base64.{decode};
 ghost use Rattle.base64.specs.Inner.{Decodes};
 ghost use Rattle.frame.specs.Line.{longest, rawMost, beginsWith, textOf};
-ghost use Rattle.reader.specs.Reader.{outcome, crcBytes, filled, waiting, completed, absorb, begin, resume, framed, takeLine};
+ghost use Rattle.reader.specs.Reader.{outcome, crcBytes, filled, waiting, completed, absorb, begin, resume, framed, placeIn, decoded};
+ghost use Rattle.reader.specs.Reader.{takeLine};
 ghost use Rattle.reader.specs.Inner.{Starts};
 
 // The reader's record between two lines.
@@ -32,8 +32,10 @@ pub enum Answer {
     More,
     // The line completed a packet: this many body bytes stand at the packet buffer's start.
     Packet(usize),
-    // The line was refused.
+    // The line was refused, but not for its text.
     Refused(Refusal),
+    // The line was refused for its text, which is not well formed: from this place in the line on.
+    BadText(usize),
 }
 
 // The reader's answer, with its record for the next line.
@@ -256,7 +258,7 @@ fn resume_packet(reader: Reader) -> Start
 
 // What the raw bytes of a frame go on with, by its marker.
 fn start_of(initial: bool, reader: Reader, raw: &[u8]) -> Start
-    ensures { λ r. ⌜ Starts r (now (raw .entry)) (framed initial reader (some (now (raw .entry)))) ⌝ }
+    ensures { λ r. ⌜ Starts r (now (raw .entry)) (framed initial reader (now (raw .entry))) ⌝ }
 {
     if initial {
         return begin_packet(raw);
@@ -266,7 +268,7 @@ fn start_of(initial: bool, reader: Reader, raw: &[u8]) -> Start
 
 // The raw bytes of a frame are taken.
 fn take_raw(initial: bool, reader: Reader, raw: &[u8], p: &mut [u8]) -> Taken
-    ensures { λ r. ⌜ outcome r (now (p .exit)) ≡ framed initial reader (some (now (raw .entry))) (now (p .entry)) ⌝ }
+    ensures { λ r. ⌜ outcome r (now (p .exit)) ≡ framed initial reader (now (raw .entry)) (now (p .entry)) ⌝ }
 {
     let start = start_of(initial, reader, raw);
     match start {
@@ -289,15 +291,25 @@ fn decode_text(line: &[u8], raw: &mut [u8]) -> Decoded
     base64::decode(&line[2..end], raw)
 }
 
+// The place in a line at which its text stops being the beginning of a well-formed one.
+fn place_in(line: &[u8]) -> usize
+    requires { ⌜ 3 ≤ length (now line) ⌝ }
+    ensures { λ r. ⌜ r ≡ placeIn (now (line .entry)) ⌝ }
+{
+    let end = line.len() - 1;
+    fault::place(&line[2..end]) + 2
+}
+
 // A frame: its text is decoded, and begins a packet or goes on with the open one.
 fn take_frame(initial: bool, reader: Reader, line: &[u8], p: &mut [u8]) -> Taken
     requires { ⌜ (3 ≤ length (now line)) × (length (now line) ≤ longest) ⌝ }
-    ensures { λ r. ⌜ outcome r (now (p .exit)) ≡ framed initial reader (decode (textOf (now (line .entry)))) (now (p .entry)) ⌝ }
+    ensures { λ r. ⌜ outcome r (now (p .exit))
+        ≡ decoded initial reader (placeIn (now (line .entry))) (decode (textOf (now (line .entry)))) (now (p .entry)) ⌝ }
 {
     let mut raw = [0u8; frame::RAW_MOST];
     let Decoded::Bytes(n) = decode_text(line, &mut raw) else {
         return Taken {
-            answer: Answer::Refused(Refusal::BadText),
+            answer: Answer::BadText(place_in(line)),
             reader: Reader::Idle,
         };
     };

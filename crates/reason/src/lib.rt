@@ -63,10 +63,10 @@ pub fn rc(r: Reason) -> u8
         Reason::OtherImage => 3,
         Reason::NoLength => 3,
         Reason::ZeroLength => 3,
-        Reason::AboveSlot => 3,
+        Reason::AboveSlot => 2,
         Reason::TagSize => 3,
         Reason::DataTooLong => 3,
-        Reason::OtherLength => 3,
+        Reason::OtherLength => 6,
         Reason::Upgrade => 8,
         Reason::ReplyTooLong => 7,
     }

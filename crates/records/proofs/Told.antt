@@ -7,6 +7,7 @@ use Prim.Native.Nat.{ℕ}
 use Rattle.laws.specs.Choice.{pick}
 use Rattle.laws.proofs.Choice.{pick-yes, pick-no}
 use Rattle.refusal.specs.declared.Refusal.{Refusal}
+use Rattle.refusal.specs.declared.Refusal.the-variants.{BadText}
 use Rattle.refusal.specs.Number.{numberOf}
 use Rattle.reader.specs.declared.Taken.{Taken}
 use Rattle.reader.specs.declared.Answer as lines
@@ -22,26 +23,36 @@ use Rattle.records.specs.Records.{readerNumbers, sessionNumbers}
 use Rattle.records.specs.Results.{keepsRecord, TookLine, tookBy, HandledC, handledBy}
 
 -- each answer of the reader, handed over
-pub took-more : (r p : List ℕ) (b : ℕ) (t : Taken) (rec : List ℕ) → t .answer ≡ More → rec ≡ readerNumbers (t .reader)
-    → _≡_ {A = TookLine} (record { result = 0; record-after = rec; packet = p; body = 0 }) (tookBy r b (t .reader) p (reading.said (t .answer)))
-unfolding tookBy
-took-more r p b t rec e f =
-    (λ i. record { result = 0; record-after = f i; packet = p; body = 0 }) ∙ ap (λ (a : lines.Answer). tookBy r b (t .reader) p (reading.said a)) (sym e)
+module _ (r p : List ℕ) (b i : ℕ) (t : Taken) where
+  pub took-more : (rec : List ℕ) → t .answer ≡ More → rec ≡ readerNumbers (t .reader)
+      → _≡_ {A = TookLine} (record { result = 0; record-after = rec; packet = p; body = 0; place = i }) (tookBy r b i (t .reader) p (reading.said (t .answer)))
+  unfolding tookBy
+  took-more rec e f =
+      (λ j. record { result = 0; record-after = f j; packet = p; body = 0; place = i })
+      ∙ ap (λ (a : lines.Answer). tookBy r b i (t .reader) p (reading.said a)) (sym e)
 
-pub took-body : (r p : List ℕ) (b : ℕ) (t : Taken) (rec : List ℕ) (n : ℕ) → t .answer ≡ Packet n → rec ≡ readerNumbers (t .reader)
-    → _≡_ {A = TookLine} (record { result = 0; record-after = rec; packet = p; body = n }) (tookBy r b (t .reader) p (reading.said (t .answer)))
-unfolding tookBy
-took-body r p b t rec n e f =
-    (λ i. record { result = 0; record-after = f i; packet = p; body = n }) ∙ ap (λ (a : lines.Answer). tookBy r b (t .reader) p (reading.said a)) (sym e)
+  pub took-body : (rec : List ℕ) (n : ℕ) → t .answer ≡ Packet n → rec ≡ readerNumbers (t .reader)
+      → _≡_ {A = TookLine} (record { result = 0; record-after = rec; packet = p; body = n; place = i }) (tookBy r b i (t .reader) p (reading.said (t .answer)))
+  unfolding tookBy
+  took-body rec n e f =
+      (λ j. record { result = 0; record-after = f j; packet = p; body = n; place = i })
+      ∙ ap (λ (a : lines.Answer). tookBy r b i (t .reader) p (reading.said a)) (sym e)
 
-pub took-refused : (r p : List ℕ) (b : ℕ) (t : Taken) (rec : List ℕ) (n : ℕ) (why : Refusal) → t .answer ≡ line-answers.Refused why → n ≡ numberOf why → rec
-    ≡ pick (keepsRecord n) r (readerNumbers (t .reader))
-    → _≡_ {A = TookLine} (record { result = n; record-after = rec; packet = p; body = b }) (tookBy r b (t .reader) p (reading.said (t .answer)))
-unfolding tookBy
-took-refused r p b t rec n why e f g =
-    (λ i. record { result = n; record-after = g i; packet = p; body = b })
-    ∙ ap (λ (k : ℕ). tookBy r b (t .reader) p (reading.refused k)) f
-    ∙ ap (λ (a : lines.Answer). tookBy r b (t .reader) p (reading.said a)) (sym e)
+  pub took-refused : (rec : List ℕ) (n : ℕ) (why : Refusal) → t .answer ≡ line-answers.Refused why → n ≡ numberOf why
+      → rec ≡ pick (keepsRecord n) r (readerNumbers (t .reader))
+      → _≡_ {A = TookLine} (record { result = n; record-after = rec; packet = p; body = b; place = i }) (tookBy r b i (t .reader) p (reading.said (t .answer)))
+  unfolding tookBy
+  took-refused rec n why e f g =
+      (λ j. record { result = n; record-after = g j; packet = p; body = b; place = i })
+      ∙ ap (λ (k : ℕ). tookBy r b i (t .reader) p (reading.refused k)) f
+      ∙ ap (λ (a : lines.Answer). tookBy r b i (t .reader) p (reading.said a)) (sym e)
+
+  pub took-bad : (rec : List ℕ) (n j : ℕ) → t .answer ≡ line-answers.BadText j → n ≡ numberOf BadText → rec ≡ readerNumbers (t .reader)
+      → _≡_ {A = TookLine} (record { result = n; record-after = rec; packet = p; body = b; place = j }) (tookBy r b i (t .reader) p (reading.said (t .answer)))
+  unfolding tookBy
+  took-bad rec n j e f g =
+      (λ k. record { result = f k; record-after = g k; packet = p; body = b; place = j })
+      ∙ ap (λ (a : lines.Answer). tookBy r b i (t .reader) p (reading.said a)) (sym e)
 
 -- the kept record, and the one that is stored
 pub record-kept : (n : ℕ) (r s : List ℕ) → keepsRecord n ≡ true → r ≡ pick (keepsRecord n) r s

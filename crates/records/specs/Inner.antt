@@ -23,6 +23,7 @@ abbrev pub SmallBy : reading.Said → Reader → Type 0
 SmallBy reading.more r = Storable r
 SmallBy (reading.body n) r = (n ≤ 65533) × Storable r
 SmallBy (reading.refused n) r = keepsRecord n ≡ false → Storable r
+SmallBy (reading.badText i) r = (i < 4294967296) × Storable r
 
 -- a session record whose numbers fit
 abbrev pub Held32 : Session → Type 0

@@ -5,6 +5,8 @@ use mathlib.Core.Bool.{Bool, true, not}
 use mathlib.Core.List.{List, [], _∷_}
 use lib.Dec.{eqb}
 use Rattle.laws.specs.Choice.{pick, both}
+use Rattle.refusal.specs.Number.{numberOf}
+use Rattle.refusal.specs.declared.Refusal.the-variants.{BadText}
 use Rattle.collector.specs.Collector as collecting
 use Rattle.reader.specs.declared.Reader.{Reader}
 use Rattle.reader.specs.Reader as reading
@@ -33,19 +35,22 @@ wentOn n = pick (eqb n 0) true (eqb n 2)
 abbrev pub keepsRecord : ℕ → Bool
 keepsRecord n = not (both (not (eqb n 2)) (both (not (eqb n 3)) (not (eqb n 5))))
 
--- bg_take_line: the result, the record, the packet buffer and *body
+-- bg_take_line: the result, the record, the packet buffer, *body and *place
 pub record TookLine : Type 0 where
   pub result : ℕ
   pub record-after : List ℕ
   pub packet : List ℕ
   pub body : ℕ
+  pub place : ℕ
 
--- by what the reader said
-unfoldable pub tookBy : List ℕ → ℕ → Reader → List ℕ → reading.Said → TookLine
-tookBy r b reader p reading.more = record { result = 0; record-after = readerNumbers reader; packet = p; body = 0 }
-tookBy r b reader p (reading.body n) = record { result = 0; record-after = readerNumbers reader; packet = p; body = n }
-tookBy r b reader p (reading.refused n) =
-    record { result = n; record-after = pick (keepsRecord n) r (readerNumbers reader); packet = p; body = b }
+-- by what the reader said; only bad text has a place, which is carried unchanged
+unfoldable pub tookBy : List ℕ → ℕ → ℕ → Reader → List ℕ → reading.Said → TookLine
+tookBy r b i reader p reading.more = record { result = 0; record-after = readerNumbers reader; packet = p; body = 0; place = i }
+tookBy r b i reader p (reading.body n) = record { result = 0; record-after = readerNumbers reader; packet = p; body = n; place = i }
+tookBy r b i reader p (reading.refused n) =
+    record { result = n; record-after = pick (keepsRecord n) r (readerNumbers reader); packet = p; body = b; place = i }
+tookBy r b i reader p (reading.badText j) =
+    record { result = numberOf BadText; record-after = readerNumbers reader; packet = p; body = b; place = j }
 
 -- bg_handle: the result, the memory, the session numbers and the tag, the reply buffer and the two numbers
 pub record HandledC : Type 0 where

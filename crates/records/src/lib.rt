@@ -7,6 +7,7 @@ use laws::Number;
 use laws::Run;
 use reader::Reader;
 use reader::Taken;
+use refusal::Refusal;
 use replies::Reply;
 use session::Layout;
 use session::Session;
@@ -192,11 +193,16 @@ pub fn layout_from(numbers: &[usize; 4]) -> Layout
     Layout { slot0, slot1 }
 }
 
-// What the reader gave, as a result: its record and the body's length are stored, unless a refusal leaves them.
-pub fn told_line(taken: Taken, record: &mut [u32; 4], body: &mut u32) -> u32
+// What the reader gave, as a result: its record, the body's length and the place of bad text are stored, unless a refusal leaves them.
+pub fn told_line(taken: Taken, record: &mut [u32; 4], body: &mut u32, place: &mut u32) -> u32
     requires { ⌜ SmallBy (reading.said (taken .answer)) (taken .reader) ⌝ }
-    ensures { λ r. ⌜ ((p : List ℕ) → record { result = r; record-after = now («record» .exit); packet = p; body = now (body .exit) }
-        ≡ tookBy (now («record» .entry)) (now (body .entry)) (taken .reader) p (reading.said (taken .answer))) ⌝ }
+    ensures { λ r. ⌜ ((p : List ℕ) → record {
+      result = r;
+      record-after = now («record» .exit);
+      packet = p;
+      body = now (body .exit);
+      place = now (place .exit);
+    } ≡ tookBy (now («record» .entry)) (now (body .entry)) (now (place .entry)) (taken .reader) p (reading.said (taken .answer))) ⌝ }
 {
     let answer = taken.answer;
     let after = taken.reader;
@@ -218,6 +224,11 @@ pub fn told_line(taken: Taken, record: &mut [u32; 4], body: &mut u32) -> u32
             }
             store_reader(record, after);
             return n;
+        }
+        reader::Answer::BadText(i) => {
+            store_reader(record, after);
+            *place = i as u32;
+            return refusal::number(Refusal::BadText);
         }
     }
 }

@@ -1,4 +1,4 @@
--- Laws of the replay: three numbers stored, a record of a recording after others, and how far a replay has come.
+-- Laws of the replay: a record of a recording after others, and how far a replay has come.
 -- Assumes nothing.
 use mathlib.Core.Path.{_≡_, sym, ap, ap₂, subst, _∙_}
 use mathlib.Core.Bool.{Bool, true, false}
@@ -7,12 +7,12 @@ use mathlib.Core.Option.{none, some}
 use Prim.Native.Nat.{ℕ, suc, _+_, _*_, _-_, _≤_, _<_}
 use native.Mathlib.Nat.{add-zero}
 use native.Mathlib.Omega.{arith}
-use lib.ListN.{length, set, length-set}
+use lib.ListN.{length}
 use borrow.Author.Tests.{lt-ltb, le-ltb}
 use Rattle.laws.specs.Bytes.{pasted}
 use Rattle.laws.specs.Parts.{partOf}
 use Rattle.laws.proofs.Choice.{pick-yes, pick-no}
-use Rattle.laws.proofs.Lists.{pasted-none, pasted-twice, set-pasted, set-twice-pasted}
+use Rattle.laws.proofs.Lists.{pasted-none, pasted-twice}
 use Rattle.recording.specs.Recording.{Entry, Said, recordIs, stepAt, recordsOf, Reads}
 use Rattle.recording.proofs.Along.{IsRecord, reads-record, reads-next, reads-once}
 use Rattle.feed.specs.declared.Answer.{Answer}
@@ -20,23 +20,16 @@ use Rattle.feed.specs.Feed.{Bench, Fed, feedLine}
 use Rattle.replay.specs.Replay.{Run, saying, fed, numbers, allNumbers, Replayed, fresh, ending, kept, replayedBy, replayed}
 use Rattle.replay.specs.Inner.{Ahead, Ends}
 
--- three numbers stored one after the other are three numbers written
-pub set-thrice-pasted : (m : List ℕ) (at u v w : ℕ) → at + 3 ≤ length m → set (set (set m at u) (at + 1) v) (at + 2) w ≡ pasted m at (u ∷ v ∷ w ∷ [])
-set-thrice-pasted m at u v w h =
-    set-pasted (set (set m at u) (at + 1) v) (at + 2) w (simp length-set (omega arith))
-    ∙ ap (λ (l : List ℕ). pasted l (at + 2) (w ∷ [])) (set-twice-pasted m at u v (omega arith))
-    ∙ pasted-twice m at (u ∷ v ∷ []) (w ∷ []) (omega arith)
-
 -- one answer more, stored behind those before it
-ending-next : (k : ℕ) (answers : List ℕ) (a : Answer) (run : Run) → 3 * k + 3 ≤ length answers
-    → ending (k + 1) (pasted answers (3 * k) (numbers a)) run ≡ ending k answers (saying a run)
+ending-next : (k : ℕ) (answers : List ℕ) (a : Answer) (run : Run) → 4 * k + 4 ≤ length answers
+    → ending (k + 1) (pasted answers (4 * k) (numbers a)) run ≡ ending k answers (saying a run)
 unfolding ending saying allNumbers
 ending-next k answers a run h =
-    let there : 3 * (k + 1) ≡ 3 * k + 3 = omega arith in
+    let there : 4 * (k + 1) ≡ 4 * k + 4 = omega arith in
     let one : k + 1 + length (run .says) ≡ k + suc (length (run .says)) = omega arith in
-    let all : pasted (pasted answers (3 * k) (numbers a)) (3 * (k + 1)) (allNumbers (run .says)) ≡ pasted answers (3 * k) (numbers a ++ allNumbers (run .says)) =
-    ap (λ (at : ℕ). pasted (pasted answers (3 * k) (numbers a)) at (allNumbers (run .says))) there
-    ∙ pasted-twice answers (3 * k) (numbers a) (allNumbers (run .says)) h in
+    let all : pasted (pasted answers (4 * k) (numbers a)) (4 * (k + 1)) (allNumbers (run .says)) ≡ pasted answers (4 * k) (numbers a ++ allNumbers (run .says)) =
+    ap (λ (at : ℕ). pasted (pasted answers (4 * k) (numbers a)) at (allNumbers (run .says))) there
+    ∙ pasted-twice answers (4 * k) (numbers a) (allNumbers (run .says)) h in
     ap₂ (λ (n : ℕ) (l : List ℕ). record { result = 0; bench = run .bench; answers = l; count = n }) one all
 
 -- a line from the controller changes nothing
@@ -47,8 +40,8 @@ record-passed k answers b to line rest e = rw (e, pick-no)
 
 -- a line to the controller is fed, and its answer stored
 pub record-fed : (k : ℕ) (answers : List ℕ) (b : Bench) (to : Bool) (line : List ℕ) (rest : List Entry) (f : Fed) → to ≡ true
-    → 3 * k + 3 ≤ length answers → f ≡ feedLine b line
-    → ending (k + 1) (pasted answers (3 * k) (numbers (f .says))) (fed rest (f .bench))
+    → 4 * k + 4 ≤ length answers → f ≡ feedLine b line
+    → ending (k + 1) (pasted answers (4 * k) (numbers (f .says))) (fed rest (f .bench))
     ≡ ending k answers (fed (record { toController = to; line = line } ∷ rest) b)
 unfolding fed
 record-fed k answers b to line rest f e h g =
@@ -71,26 +64,26 @@ replayed-none b answers count file e = rw e
 
 -- so is one with more records than there is room for answers
 pub replayed-short : (b : Bench) (answers : List ℕ) (count : ℕ) (file : List ℕ) (es : List Entry) → recordsOf file ≡ some es
-    → length answers < 3 * length es → kept b answers count ≡ replayed b answers count file
+    → length answers < 4 * length es → kept b answers count ≡ replayed b answers count file
 unfolding replayedBy
-replayed-short b answers count file es e h = rw (e, lt-ltb (length answers) (3 * length es) h, pick-yes)
+replayed-short b answers count file es e h = rw (e, lt-ltb (length answers) (4 * length es) h, pick-yes)
 
 -- any other is replayed from the first record on
 pub replayed-all : (b : Bench) (answers : List ℕ) (count : ℕ) (file : List ℕ) (es : List Entry) → recordsOf file ≡ some es
-    → 3 * length es ≤ length answers → ending 0 answers (fed es (fresh b)) ≡ replayed b answers count file
+    → 4 * length es ≤ length answers → ending 0 answers (fed es (fresh b)) ≡ replayed b answers count file
 unfolding replayedBy
-replayed-all b answers count file es e h = rw (e, le-ltb (length answers) (3 * length es) h, pick-no)
+replayed-all b answers count file es e h = rw (e, le-ltb (length answers) (4 * length es) h, pick-no)
 
 -- how far a replay has come: these records are left from a place on, there is room for their answers, and what comes of them has the property P
 pub record Left (P : Replayed → Type 0) (file : List ℕ) (k at left : ℕ) (answers : List ℕ) (b : Bench) : Type 0 where
   pub entries : List Entry
   pub reads : Reads file at entries
   pub many : length entries ≡ left
-  pub room : 3 * (k + left) ≤ length answers
+  pub room : 4 * (k + left) ≤ length answers
   pub leads : P (ending k answers (fed entries b))
 
 -- all are left at the first record
-pub left-all : (file : List ℕ) (place number : ℕ) (answers : List ℕ) (b : Bench) → Ahead file place number → 3 * number ≤ length answers
+pub left-all : (file : List ℕ) (place number : ℕ) (answers : List ℕ) (b : Bench) → Ahead file place number → 4 * number ≤ length answers
     → Left (Ends file place number answers b) file 0 place number answers b
 left-all file place number answers b f h = record {
   entries = f .entries;

@@ -25,9 +25,9 @@ unfoldable pub fed : List Entry → Bench → Run
 fed [] b = record { says = []; bench = b }
 fed (e ∷ es) b = pick (e .toController) (saying (feedLine b (e .line) .says) (fed es (feedLine b (e .line) .bench))) (fed es b)
 
--- an answer in three numbers
+-- an answer in four numbers
 abbrev pub numbers : Answer → List ℕ
-numbers a = a .refusal ∷ a .replied ∷ a .rc ∷ []
+numbers a = a .refusal ∷ a .replied ∷ a .rc ∷ a .place ∷ []
 
 -- the numbers of answers, one after the other
 unfoldable pub allNumbers : List Answer → List ℕ
@@ -55,7 +55,7 @@ fresh b = record {
 -- where lines end that were fed after k others: their answers' numbers stand behind those of the others
 unfoldable pub ending : ℕ → List ℕ → Run → Replayed
 ending k answers run =
-    record { result = 0; bench = run .bench; answers = pasted answers (3 * k) (allNumbers (run .says)); count = k + length (run .says) }
+    record { result = 0; bench = run .bench; answers = pasted answers (4 * k) (allNumbers (run .says)); count = k + length (run .says) }
 
 -- refusal 12: everything stays
 abbrev pub kept : Bench → List ℕ → ℕ → Replayed
@@ -64,7 +64,7 @@ kept b answers count = record { result = 12; bench = b; answers = answers; count
 -- the replay of the records of a file: refused where it has none that are readable, or there is no room for an answer to each
 unfoldable pub replayedBy : Bench → List ℕ → ℕ → Option (List Entry) → Replayed
 replayedBy b answers count none = kept b answers count
-replayedBy b answers count (some es) = pick (ltb (length answers) (3 * length es)) (kept b answers count) (ending 0 answers (fed es (fresh b)))
+replayedBy b answers count (some es) = pick (ltb (length answers) (4 * length es)) (kept b answers count) (ending 0 answers (fed es (fresh b)))
 
 -- the replay of a file
 abbrev pub replayed : Bench → List ℕ → ℕ → List ℕ → Replayed

@@ -18,16 +18,17 @@ pub const MEMORY: usize = 8192;
 pub const BUFFER: usize = 1024;
 
 // How many numbers an answer has.
-const NUMBERS: usize = 3;
+const NUMBERS: usize = 4;
 
 // The numbers of an answer go to their places.
 fn store(answers: &mut [u32], at: usize, answer: Answer)
-    requires { ⌜ at + 3 ≤ length (now answers) ⌝ }
+    requires { ⌜ at + 4 ≤ length (now answers) ⌝ }
     ensures { λ _. ⌜ now (answers .exit) ≡ pasted (now (answers .entry)) at (numbers answer) ⌝ }
 {
     answers[at] = answer.refusal;
     answers[at + 1] = answer.replied;
     answers[at + 2] = answer.rc;
+    answers[at + 3] = answer.place;
 }
 
 // One record of a recording, after `count` answers: a line to the controller is fed and its answer stored; a line from it changes nothing. Gives how
@@ -44,7 +45,7 @@ fn replay_record(
     reply: &mut [u8],
     answers: &mut [u32],
 ) -> usize
-    requires { ⌜ 3 * count + 3 ≤ length (now answers) ⌝ }
+    requires { ⌜ 4 * count + 4 ≤ length (now answers) ⌝ }
     ensures { λ r. ⌜ ((rest : List Entry) → ending r (now (answers .exit))
         (fed rest (record {
           memory = now (memory .exit);
@@ -87,7 +88,7 @@ fn replay_records(
     answers: &mut [u32],
 ) -> usize
     requires { ⌜ Ahead (now file) place number ⌝ }
-    requires { ⌜ 3 * number ≤ length (now answers) ⌝ }
+    requires { ⌜ 4 * number ≤ length (now answers) ⌝ }
     ensures { λ r. ⌜ Ends (now (file .entry)) place number (now (answers .entry))
         (record {
           memory = now (memory .entry);

@@ -15,7 +15,7 @@ use Rattle.base64.specs.Base64.{encode, decode}
 use Rattle.base64.proofs.Laws.{decode-encode, encode-length}
 use Rattle.frame.specs.Line.{longest, newline, rawMost, initial, partial, frame, marked, beginsWith, ended, textOf}
 use Rattle.reader.specs.declared.Reader.{Reader}
-use Rattle.reader.specs.Reader.{keeping, begin, resume, begun, resumed, framed, takeLine}
+use Rattle.reader.specs.Reader.{keeping, begin, resume, placeIn, decoded, takeLine}
 
 -- a line is its marker, its text and 0A
 line-is : (a b : ℕ) (raw : List ℕ) → frame (a ∷ b ∷ []) raw ≡ (a ∷ b ∷ encode raw) ++ (newline ∷ [])
@@ -44,8 +44,8 @@ line-text a b raw =
 -- a frame passes refusals 2 and 3
 passes : (a b : ℕ) (r : Reader) (raw p : List ℕ) → length raw ≤ rawMost
     → takeLine r (frame (a ∷ b ∷ []) raw) p
-    ≡ pick (beginsWith initial (frame (a ∷ b ∷ []) raw)) (framed true r (decode (encode raw)) p)
-    (pick (beginsWith partial (frame (a ∷ b ∷ []) raw)) (framed false r (decode (encode raw)) p)
+    ≡ pick (beginsWith initial (frame (a ∷ b ∷ []) raw)) (decoded true r (placeIn (frame (a ∷ b ∷ []) raw)) (decode (encode raw)) p)
+    (pick (beginsWith partial (frame (a ∷ b ∷ []) raw)) (decoded false r (placeIn (frame (a ∷ b ∷ []) raw)) (decode (encode raw)) p)
     (keeping 3 r p))
 unfolding takeLine
 passes a b r raw p l =
@@ -64,11 +64,11 @@ passes a b r raw p l =
 -- an initial frame begins a packet
 pub initial-taken : (r : Reader) (raw p : List ℕ) → Bytes raw → 0 < length raw → length raw ≤ rawMost
     → takeLine r (frame initial raw) p ≡ begin raw p
-unfolding begun marked both frame
+unfolding decoded marked both frame
 initial-taken r raw p h n l = passes (getD initial 0 0) (getD initial 1 0) r raw p l ∙ rw (pick-yes, decode-encode raw h n)
 
 -- a partial frame goes on with one
 pub partial-taken : (r : Reader) (raw p : List ℕ) → Bytes raw → 0 < length raw → length raw ≤ rawMost
     → takeLine r (frame partial raw) p ≡ resume r raw p
-unfolding resumed marked both frame
+unfolding decoded marked both frame
 partial-taken r raw p h n l = passes (getD partial 0 0) (getD partial 1 0) r raw p l ∙ rw (pick-no, pick-yes, decode-encode raw h n)

@@ -44,8 +44,8 @@ planLater st u =
     (pick (ltb (st .session .length) (u .off + u .size)) (Refuse Reason.BeyondLength)
     Append))
 
--- "off" 0 with a "len" of this number, which is 1 to S, and no "sha" of another length: "data longer than "len", or same tag as the open
--- session's but another length: rc 3. Then "upgrade" true: rc 8. Then, if the tag and length are those of the open session: resume, reply n,
+-- "off" 0 with a "len" of this number, which is 1 to S, and no "sha" of another length: "data longer than "len"", then "a matching tag with another
+-- length becomes rc 6; 01's checks stay in the order listed"; "Then "upgrade" true: rc 8. Then, if the tag and length are those of the open session: resume, reply n,
 -- nothing written .. Otherwise start"
 unfoldable pub planSized : State → List ℕ → Upload → ℕ → Plan
 planSized st s u length =
@@ -55,7 +55,7 @@ planSized st s u length =
     (pick (sameTag st s (u .sha)) (Tell (st .session .place))
     (Start length))))
 
--- "off" 0, by its length: ""len" missing, 0 or above S, "sha" not of 32 bytes"
+-- "off" 0, by its length: ""len" missing, 0 or above S, "sha" not of 32 bytes"; "A length above the slot becomes rc 2"
 unfoldable pub planLength : Slot → State → List ℕ → Upload → Number → Plan
 planLength slot st s u Number.Absent = Refuse Reason.NoLength
 planLength slot st s u (Number.Is length) =

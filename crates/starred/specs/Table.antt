@@ -99,7 +99,7 @@ starred =
       wanted = 0xA2 ∷ 0x64 ∷ 0x64 ∷ 0x61 ∷ 0x74 ∷ 0x61 ∷ 0x41 ∷ 0x01 ∷ 0x63 ∷ 0x6F ∷ 0x66 ∷ 0x66 ∷ 0x19 ∷ 0x02 ∷ 0x00 ∷ [];
     }
     ∷ record { given = planned noSession (uploading 0 1 (Number.Is 4096)); wanted = 3 ∷ 4096 ∷ [] }
-    ∷ record { given = planned noSession (uploading 0 1 (Number.Is 4097)); wanted = 0 ∷ 3 ∷ [] }
+    ∷ record { given = planned noSession (uploading 0 1 (Number.Is 4097)); wanted = 0 ∷ 2 ∷ [] }
     ∷ record { given = planned openAt8 (uploading 8 8 Number.Absent); wanted = 2 ∷ [] }
     ∷ record { given = planned openAt8 (uploading 8 9 Number.Absent); wanted = 0 ∷ 3 ∷ [] }
     ∷ record { given = planned noSession (uploading 5 1 Number.Absent); wanted = 1 ∷ 0 ∷ [] }

@@ -136,20 +136,20 @@ rest-written answers count s k {m} {l} {at} {r} h room p =
     ∙ ap (λ (l : List ℕ). pasted m at l) (sym (rest-turn answers count s k h))
 
 -- answers that are fewer than was said are refused
-pub written-few : (answers : List ℕ) (count : ℕ) (s : Session) (out : List ℕ) → length answers / 3 < count
+pub written-few : (answers : List ℕ) (count : ℕ) (s : Session) (out : List ℕ) → length answers / 4 < count
     → record { says = refused 12; out = out } ≡ written answers count s out
 unfolding written
 written-few answers count s out few = simp (lt-ltb _ _ few, pick-yes)
 
 -- so is a text that is longer than the output
-pub written-long : (answers : List ℕ) (count : ℕ) (s : Session) (out : List ℕ) → count ≤ length answers / 3
+pub written-long : (answers : List ℕ) (count : ℕ) (s : Session) (out : List ℕ) → count ≤ length answers / 4
     → length out < length (transcript answers count s)
     → record { says = refused 12; out = out } ≡ written answers count s out
 unfolding written
 written-long answers count s out all long = simp (le-ltb _ _ all, lt-ltb _ _ long, pick-yes, pick-no)
 
 -- another is written to the output's start
-pub written-whole : (answers : List ℕ) (count : ℕ) (s : Session) {out l : List ℕ} {r : ℕ} → count ≤ length answers / 3
+pub written-whole : (answers : List ℕ) (count : ℕ) (s : Session) {out l : List ℕ} {r : ℕ} → count ≤ length answers / 4
     → length (transcript answers count s) ≤ length out
     → Put r l out 0 (transcript answers count s)
     → record { says = text r; out = l } ≡ written answers count s out

@@ -24,9 +24,10 @@ rcText replied rc = pick (eqb replied 0) (0x2D ∷ 0x0A ∷ []) (wide rc ++ (0x0
 abbrev pub lineText : ℕ → ℕ → ℕ → ℕ → List ℕ
 lineText k refusal replied rc = (wide k ++ (0x20 ∷ [])) ++ ((wide refusal ++ (0x20 ∷ [])) ++ rcText replied rc)
 
--- the line of answer k, whose three numbers stand one after the other: the refusal or 0, whether there is a reply, and its rc
+-- the line of answer k, whose four numbers stand one after the other: the refusal or 0, whether there is a reply, its rc, and the place in a line of bad
+-- text, which is not printed
 abbrev pub lineOf : List ℕ → ℕ → List ℕ
-lineOf answers k = lineText k (getD answers (3 * k) 0) (getD answers (3 * k + 1) 0) (getD answers (3 * k + 2) 0)
+lineOf answers k = lineText k (getD answers (4 * k) 0) (getD answers (4 * k + 1) 0) (getD answers (4 * k + 2) 0)
 
 -- the lines of n answers from answer k on
 unfoldable pub linesFrom : List ℕ → ℕ → ℕ → List ℕ
@@ -66,6 +67,6 @@ pub record Outcome : Type 0 where
 -- the text stands at the output's start, or refusal 12: the answers are fewer, or the output is shorter than the text
 unfoldable pub written : List ℕ → ℕ → Session → List ℕ → Outcome
 written answers count s out =
-    pick (ltb (length answers / 3) count) (record { says = refused 12; out = out })
+    pick (ltb (length answers / 4) count) (record { says = refused 12; out = out })
     (pick (ltb (length out) (length (transcript answers count s))) (record { says = refused 12; out = out })
     (record { says = text (length (transcript answers count s)); out = pasted out 0 (transcript answers count s) }))

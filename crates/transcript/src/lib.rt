@@ -8,8 +8,8 @@ ghost use lib.ListN.{length};
 ghost use Rattle.cbor.specs.Inner.{Put};
 ghost use Rattle.transcript.specs.Transcript.{rcText, lineText, endText, transcript, said, written};
 
-// How many numbers an answer has: the refusal or 0, whether there is a reply, and its return code.
-pub const NUMBERS: usize = 3;
+// How many numbers an answer has: the refusal or 0, whether there is a reply, its return code, and a place, which the text leaves out.
+pub const NUMBERS: usize = 4;
 
 // The most digits of a number of 64 bits after its first.
 const MORE: usize = 19;
@@ -88,7 +88,7 @@ fn put_end(out: &mut [u8], at: usize, session: Session) -> usize
 
 // Whether the text of so many answers fits into this much room.
 fn fits(answers: &[u32], count: usize, session: Session, room: usize) -> bool
-    requires { ⌜ 3 * count ≤ length (now answers) ⌝ }
+    requires { ⌜ 4 * count ≤ length (now answers) ⌝ }
     ensures { λ r. ⌜ r ≡ leb (length (transcript (now (answers .entry)) count session)) room ⌝ }
 {
     let last = end_len(session);
@@ -111,7 +111,7 @@ fn fits(answers: &[u32], count: usize, session: Session, room: usize) -> bool
 
 // Writes the text of so many answers, which fits, to the start of out, and gives its length.
 fn put_all(answers: &[u32], count: usize, session: Session, out: &mut [u8]) -> usize
-    requires { ⌜ 3 * count ≤ length (now answers) ⌝ }
+    requires { ⌜ 4 * count ≤ length (now answers) ⌝ }
     requires { ⌜ length (transcript (now answers) count session) ≤ length (now out) ⌝ }
     ensures { λ r. ⌜ Put r (now (out .exit)) (now (out .entry)) 0 (transcript (now (answers .entry)) count session) ⌝ }
 {

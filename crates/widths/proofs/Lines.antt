@@ -1,14 +1,14 @@
 -- What the reader says and leaves fits the arrays of 32-bit numbers.
 -- Assumes nothing.
 use mathlib.Core.Path.{_≡_, refl, sym, subst}
-use mathlib.Core.Bool.{not, true≢false}
+use mathlib.Core.Bool.{true, false, not, true≢false}
 use mathlib.Core.List.{List}
 use mathlib.Core.Option.{Option, none, some}
 use Prim.Native.Nat.{ℕ, _+_, _-_, _≤_}
 use native.Mathlib.Omega.{arith}
 use lib.Dec.{ltb, leb, eqb}
 use lib.ListN.{length, drop, take}
-use borrow.Author.Tests.{ltb-true, leb-true}
+use borrow.Author.Tests.{ltb-true, ltb-false, leb-true}
 use Rattle.laws.specs.Choice.{both}
 use Rattle.laws.specs.Bytes.{Bytes, ofBe16}
 use Rattle.laws.proofs.Choice.{pick-case, both-true}
@@ -16,6 +16,7 @@ use Rattle.reader.specs.declared.Taken.{Taken}
 use Rattle.crc.specs.Crc.{crcOf}
 use Rattle.base64.specs.Base64.{decode}
 use Rattle.base64.proofs.Laws.{decode-bytes}
+use Rattle.fault.proofs.Places.{place-is}
 use Rattle.frame.specs.Line.{marked, ended, textOf}
 use Rattle.reader.specs.declared.Reader.{Reader}
 use Rattle.reader.specs.declared.Reader.the-variants.{Idle, Open}
@@ -23,6 +24,7 @@ use Rattle.reader.specs.Reader.{
   Outcome,
   outcome,
   said,
+  badText,
   keeping,
   dropping,
   possible,
@@ -33,10 +35,11 @@ use Rattle.reader.specs.Reader.{
   absorb,
   begin,
   resume,
-  begun,
-  resumed,
+  placeIn,
+  decoded,
   takeLine,
 }
+use Rattle.reader.proofs.Laws.{text-size}
 use Rattle.records.specs.Inner.{Storable, SmallBy}
 
 -- an outcome can be handed over, and a record that could be leaves one that can
@@ -90,24 +93,29 @@ small-resume (Open total come first) raw p =
     (both-true (leb 10 total) (both (leb total 65535) (ltb come total)) e .1) .0)))
     (λ e. (λ f. absurd (true≢false f), λ s. s))
 
+-- bad text: its place is in the line
+bad-text : (r : Reader) (line p : List ℕ) → length line ≤ 127 → Small r (record { says = badText (placeIn line); reader = Idle; buffer = p })
+unfolding placeIn
+bad-text r line p h = ((omega (arith, place-is (textOf line) .within, text-size line), tt), λ s. tt)
+
 -- any line
 pub small-line : (r : Reader) (line p : List ℕ) → Small r (takeLine r line p)
-unfolding takeLine begun resumed both
+unfolding takeLine decoded both
 small-line r line p =
     pick-case (Small r) (ltb 127 (length line)) (keeping 2 r p) _ (λ e. (λ f. absurd (true≢false f), λ s. s))
     (λ e. pick-case (Small r) (ltb (length line) 3) (keeping 3 r p) _ (λ f. (λ g. absurd (true≢false g), λ s. s))
     (λ f. pick-case (Small r) (not (ended line)) (keeping 3 r p) _ (λ g. (λ h. absurd (true≢false h), λ s. s))
-    (λ g. pick-case (Small r) (marked 0x06 0x09 line) (begun (decode (textOf line)) p) _ (λ h. initial (decode (textOf line)) refl)
-    (λ h. pick-case (Small r) (marked 0x04 0x14 line) (resumed (decode (textOf line)) r p) (keeping 3 r p) (λ i. partial (decode (textOf line)))
+    (λ g. pick-case (Small r) (marked 0x06 0x09 line) _ _ (λ h. initial (decode (textOf line)) refl (ltb-false 127 (length line) e))
+    (λ h. pick-case (Small r) (marked 0x04 0x14 line) _ (keeping 3 r p) (λ i. partial (decode (textOf line)) (ltb-false 127 (length line) e))
     (λ i. (λ j. absurd (true≢false j), λ s. s))))))
   where
-    initial : (t : Option (List ℕ)) → decode (textOf line) ≡ t → Small r (begun t p)
-    initial none e = dropped 4 r p
-    initial (some raw) e = small-begin r raw p (decode-bytes (textOf line) raw e)
+    initial : (t : Option (List ℕ)) → decode (textOf line) ≡ t → length line ≤ 127 → Small r (decoded true r (placeIn line) t p)
+    initial none e h = bad-text r line p h
+    initial (some raw) e h = small-begin r raw p (decode-bytes (textOf line) raw e)
 
-    partial : (t : Option (List ℕ)) → Small r (resumed t r p)
-    partial none = dropped 4 r p
-    partial (some raw) = small-resume r raw p
+    partial : (t : Option (List ℕ)) → length line ≤ 127 → Small r (decoded false r (placeIn line) t p)
+    partial none h = bad-text r line p h
+    partial (some raw) h = small-resume r raw p
 
 -- it can be handed over
 pub taken-small : (line p : List ℕ) (t : Taken) (p′ : List ℕ) (before : Reader) → outcome t p′ ≡ takeLine before line p → SmallBy (said (t .answer)) (t .reader)

@@ -16,9 +16,9 @@ same-length c = search needs
 
 returns : tie.Need-returns
 returns c =
-    let a = c .before .before .before .before .before .before .before .before .before .before .before .args in
+    let a = c .before .before .before .before .before .before .before .before .before .before .before .before .args in
     let d = c .before .before .before .take-line in
-    let t : TookLine = record { result = d .result; record-after = d .last .0; packet = d .last .1 .1 .0; body = d .last .1 .1 .1 .0 } in
+    let t : TookLine = record { result = d .result; record-after = d .last .0; packet = d .last .1 .1 .0; body = d .last .1 .1 .1 .0; place = d .last .1 .1 .1 .1 .0 } in
     let b : Bench = record {
       memory = a .memory .now;
       session = a .session .now;
@@ -34,9 +34,9 @@ same-length-2 c = search needs
 
 returns-2 : tie.Need-returns-2
 returns-2 c =
-    let a = c .before .before .before .before .before .before .before .before .before .before .before .before .args in
+    let a = c .before .before .before .before .before .before .before .before .before .before .before .before .before .args in
     let d = c .before .before .before .before .take-line in
-    let t : TookLine = record { result = d .result; record-after = d .last .0; packet = d .last .1 .1 .0; body = d .last .1 .1 .1 .0 } in
+    let t : TookLine = record { result = d .result; record-after = d .last .0; packet = d .last .1 .1 .0; body = d .last .1 .1 .1 .0; place = d .last .1 .1 .1 .1 .0 } in
     let b : Bench = record {
       memory = a .memory .now;
       session = a .session .now;
@@ -61,9 +61,9 @@ same-length-5 c = search needs
 
 returns-3 : tie.Need-returns-3
 returns-3 c =
-    let a = c .before .before .before .before .before .before .before .before .before .before .before .before .before .before .before .before .before .before .before .before .before .before .args in
+    let a = c .before .before .before .before .before .before .before .before .before .before .before .before .before .before .before .before .before .before .before .before .before .before .before .args in
     let d = c .before .before .before .before .before .before .before .before .before .before .before .before .before .before .take-line in
-    let t : TookLine = record { result = d .result; record-after = d .last .0; packet = d .last .1 .1 .0; body = d .last .1 .1 .1 .0 } in
+    let t : TookLine = record { result = d .result; record-after = d .last .0; packet = d .last .1 .1 .0; body = d .last .1 .1 .1 .0; place = d .last .1 .1 .1 .1 .0 } in
     let b : Bench = record {
       memory = a .memory .now;
       session = a .session .now;

@@ -51,7 +51,7 @@ returns c =
       reader = reader;
       packet = a .packet .now;
       reply = a .reply .now;
-    }) (a .n) h (refusing (d .result)) is (answered-refusal h (c .if1 .taken))
+    }) (a .n) h (refusing (d .result) 0) is (answered-refusal h (c .if1 .taken))
 
 array-read-rc-of : tie.Need-array-read-rc-of
 array-read-rc-of c = search needs

@@ -27,9 +27,9 @@ take-line-requires c κs = search needs
 
 told-line-requires : tie.Need-told-line-requires
 told-line-requires c κs =
-    let t = c .before .before .before .before .take-line in
-    let before = c .before .before .before .before .before .before .reader-from in
-    let a = c .before .before .before .before .before .before .before .before .before .before .before .before .before .args in
+    let t = c .before .before .before .before .before .take-line in
+    let before = c .before .before .before .before .before .before .before .reader-from in
+    let a = c .before .before .before .before .before .before .before .before .before .before .before .before .before .before .args in
     taken-small (a .line .now) (a .packet .now) (t .result) (t .last .1 .1 .0) (before .result) (t .ensures)
 
 same-length : tie.Need-same-length
@@ -37,11 +37,11 @@ same-length c = search needs
 
 returns : tie.Need-returns
 returns c =
-    let t = c .before .before .before .before .before .take-line in
-    let before = c .before .before .before .before .before .before .before .reader-from in
-    let a = c .before .before .before .before .before .before .before .before .before .before .before .before .before .before .args in
+    let t = c .before .before .before .before .before .before .take-line in
+    let before = c .before .before .before .before .before .before .before .before .reader-from in
+    let a = c .before .before .before .before .before .before .before .before .before .before .before .before .before .before .before .args in
     c .told-line .ensures (t .last .1 .1 .0)
-    ∙ sym (took-is (a .«record» .now) (a .line .now) (a .packet .now) (a .body .now) (t .result) (t .last .1 .1 .0) (before .result) (before .ensures) (t .ensures))
+    ∙ sym (took-is (a .«record» .now) (a .line .now) (a .packet .now) (a .body .now) (a .place .now) (t .result) (t .last .1 .1 .0) (before .result) (before .ensures) (t .ensures))
 
 pub take-line-spec : {M : Type 1} → statement M
 take-line-spec =

@@ -9,8 +9,9 @@ use lib.ListN.{length, take, replicate, length-take}
 use Rattle.base64.specs.Base64.{decode}
 use Rattle.base64.proofs.Answer.{decodes-bad, decodes-good}
 use Rattle.frame.specs.Line.{rawMost, textOf}
-use Rattle.reader.specs.Reader.{framed}
-use Rattle.reader.proofs.Laws.{framed-bad, text-size}
+use Rattle.reader.specs.declared.Reader.the-variants.{Idle}
+use Rattle.reader.specs.Reader.{badText, placeIn}
+use Rattle.reader.proofs.Laws.{decoded-bad, decoded-good, text-size}
 use borrow.Author.Needs.{needs}
 use Rattle.reader.proofs.take_frame.Statement.{statement}
 use Rattle.reader.proofs.take_frame.Tie as tie
@@ -27,12 +28,16 @@ enum-known-n c = search needs
 enum-told : tie.Need-enum-told
 enum-told c = search needs
 
+place-in-requires : tie.Need-place-in-requires
+place-in-requires c κs = search needs
+
 returns : tie.Need-returns
 returns c =
-    let a = c .before .before .before .before .before .before .before .args in
-    let d = c .before .before .before .decode-text in
-    let bad = decodes-bad (textOf (a .line .now)) (replicate rawMost 0) (d .last .1 .0) (d .result) (d .ensures) (c .enum-told .given .1) in
-    sym (ap (λ (t : Option (List ℕ)). framed (a .initial) (a .reader) t (a .p .now)) bad ∙ framed-bad (a .initial) (a .reader) (a .p .now))
+    let a = c .before .before .before .before .before .before .before .before .args in
+    let d = c .before .before .before .before .decode-text in
+    let bad = decodes-bad (textOf (a .line .now)) (replicate rawMost 0) (d .last .1 .0) (d .result) (d .ensures) (c .before .enum-told .given .1) in
+    ap (λ (i : ℕ). record { says = badText i; reader = Idle; buffer = a .p .now }) (c .place-in .ensures)
+    ∙ sym (decoded-bad (a .initial) (a .reader) (placeIn (a .line .now)) (decode (textOf (a .line .now))) (a .p .now) bad)
 
 -- the text of this line decodes to what stands at the start of the raw bytes, three at most for each four characters
 good : (c : tie.After-known-told)
@@ -62,7 +67,8 @@ returns-2 : tie.Need-returns-2
 returns-2 c =
     let a = c .before .before .before .before .before .before .before .before .before .before .before .before .before .args in
     c .before .before .take-raw .ensures
-    ∙ ap (λ (t : Option (List ℕ)). framed (a .initial) (a .reader) t (a .p .now)) (sym (good (c .before .before .before .before .before) .0))
+    ∙ sym (decoded-good (a .initial) (a .reader) (placeIn (a .line .now)) (decode (textOf (a .line .now))) _ (a .p .now)
+    (good (c .before .before .before .before .before) .0))
 
 pub take-frame-spec : {M : Type 1} → statement M
 take-frame-spec =
@@ -72,6 +78,7 @@ take-frame-spec =
     decode-text-requires
     enum-known-n
     enum-told
+    place-in-requires
     returns
     array-share-prefix-raw
     slice-aggregate-take-raw

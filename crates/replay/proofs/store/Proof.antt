@@ -1,8 +1,8 @@
--- `replay::store` meets its contract: three stores one after the other are the three numbers written.
+-- `replay::store` meets its contract: four stores one after the other are the four numbers written.
 -- Assumes nothing.
 use native.Mathlib.Omega.{arith}
 use lib.ListN.{length-set}
-use Rattle.replay.proofs.Laws.{set-thrice-pasted}
+use Rattle.laws.proofs.Lists.{set-four-pasted}
 use borrow.Author.Needs.{needs}
 use Rattle.replay.proofs.store.Statement.{statement}
 use Rattle.replay.proofs.store.Tie as tie
@@ -31,11 +31,20 @@ mul-answers-3 c = search needs
 slice-write-answers-3 : tie.Need-slice-write-answers-3
 slice-write-answers-3 c = simp length-set (omega arith)
 
+add-answers-3 : tie.Need-add-answers-3
+add-answers-3 c = search needs
+
+mul-answers-4 : tie.Need-mul-answers-4
+mul-answers-4 c = search needs
+
+slice-write-answers-4 : tie.Need-slice-write-answers-4
+slice-write-answers-4 c = simp length-set (omega arith)
+
 same-length : tie.Need-same-length
 same-length c = search needs
 
 returns : tie.Need-returns
-returns c = let a = c .args in set-thrice-pasted (a .answers .now) (a .at) (a .answer .refusal) (a .answer .replied) (a .answer .rc) (c .pre)
+returns c = let a = c .args in set-four-pasted (a .answers .now) (a .at) (a .answer .refusal) (a .answer .replied) (a .answer .rc) (a .answer .place) (c .pre)
 
 pub store-spec : {M : Type 1} → statement M
 store-spec =
@@ -49,5 +58,8 @@ store-spec =
     add-answers-2
     mul-answers-3
     slice-write-answers-3
+    add-answers-3
+    mul-answers-4
+    slice-write-answers-4
     same-length
     returns)
