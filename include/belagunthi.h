@@ -4,8 +4,8 @@
  * Each call is proved to keep the promise in the comment above it, for every value of its arguments: it ends, it touches nothing but what
  * it is lent, and it returns 0 or the number of one refusal (bg_next_sequence and bg_most_data refuse nothing, and return their number). After a
  * refusal every lent byte and number is as it was, but for three: at 4, 6, 7, 8 and 9 the reader's record is then idle, at 4 the place of the bad text is
- * given, and at the collector's 2 its record is then empty and the place behind the line is given. No call keeps anything of its own: there is nothing to set up, and calls on different arrays may
- * run at the same time.
+ * given, and at the collector's 2 its record is then empty and the place behind the line is given. No call keeps anything of its own: there is nothing to
+ * set up, and calls on different arrays may run at the same time.
  *
  * What the caller owes, and no call can check:
  *  - A pointer with a length is that many bytes, his to lend for the call; it may be null where the length is 0. Every other pointer (an array, an
@@ -22,7 +22,7 @@
  * else. No call takes more than BG_STACK bytes of stack, but bg_replay, which takes at most BG_BENCH_STACK; measured on x86-64,
  * without what memcpy and memset take:
  *   bg_collect           408
- *   bg_take_line        1024
+ *   bg_take_line        1056
  *   bg_send_frame        768
  *   bg_configure           8
  *   bg_handle            640
@@ -53,7 +53,7 @@ extern "C" {
 #define BG_VERSION_TEXT "4.0.0"
 
 /* The most stack that a call takes, in bytes; and bg_replay, which no controller and no host needs. */
-#define BG_STACK 1024
+#define BG_STACK 1152
 #define BG_BENCH_STACK 1536
 
 /* What a call returns: done, or the refusal of this number. */
@@ -213,8 +213,9 @@ uint32_t bg_configure(const size_t layout[BG_LAYOUT], size_t memory_len, uint32_
  * tagged are then 0 or 1; a reset or an erase that is answered rc 0 makes all of it 0 (an erase sets the whole upload slot to 255; one that is answered
  * rc 3, as of another slot than 1, changes nothing); a start writes length, place and the tag, zeros where there is none; data that is added moves place
  * alone; and any other request leaves the other numbers and the tag as they were lent. A request is at most 65,533 bytes long; an echo reply longer than
- * the reply buffer becomes rc 7. An upload at offset 0 whose length is above the upload slot's size, but not above 4,294,967,295, is answered rc 2, one with the
- * open session's tag and another length rc 6; the checks stand in the paper's order. An rc other than 0 leaves memory and session. No byte of the memory outside the upload slot is ever written.
+ * the reply buffer becomes rc 7. An upload at offset 0 whose length is above the upload slot's size, but not above 4,294,967,295, is answered rc 2, one with
+ * the open session's tag and another length rc 6; the checks stand in the paper's order. An rc other than 0 leaves memory and session. No byte of the memory
+ * outside the upload slot is ever written.
  * Refuses 1, 11 and 10, in this order: everything stays.
  *
  * A state read (op 0, group 1, command 0) is answered with {"images": [..]}, without "rc": for slot 0 and then for slot 1, each where it holds a valid
@@ -308,9 +309,9 @@ uint32_t bg_replay(const uint8_t *file, size_t file_len, uint8_t memory[BG_BENCH
 
 /*
  * Writes the text of a replay to the start of out, whose other bytes stay: for each of the first count answers a line of its number from 0, the refusal or
- * 0, and the rc, or '-' where there is no reply, with one blank between, and no place; then "end" and the session's place, or "end none" where it is closed. Numbers
- * are in decimal, and each line ends in 0A, the last too. Returns 0 with *text_len the text's length. Refuses 12, and out and *text_len stay: answers_len
- * under 4 * count, or an output shorter than the text. A line has at most 43 bytes.
+ * 0, and the rc, or '-' where there is no reply, with one blank between; then "end" and the session's place, or "end none" where it is closed. An answer's
+ * place is not written. Numbers are in decimal, and each line ends in 0A, the last too. Returns 0 with *text_len the text's length. Refuses 12, and out and
+ * *text_len stay: answers_len under 4 * count, or an output shorter than the text. A line has at most 43 bytes.
  */
 uint32_t bg_write_transcript(const uint32_t *answers, size_t answers_len, size_t count, const uint32_t session[BG_SESSION], uint8_t *out, size_t out_len,
                              size_t *text_len);

@@ -296,8 +296,8 @@ fn place_in(line: &[u8]) -> usize
     requires { ⌜ 3 ≤ length (now line) ⌝ }
     ensures { λ r. ⌜ r ≡ placeIn (now (line .entry)) ⌝ }
 {
-    let end = line.len() - 1;
-    fault::place(&line[2..end]) + 2
+    let newline = line.len() - 1;
+    fault::place(&line[2..newline]) + 2
 }
 
 // A frame: its text is decoded, and begins a packet or goes on with the open one.

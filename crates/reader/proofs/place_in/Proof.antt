@@ -9,8 +9,8 @@ use borrow.Author.Needs.{needs}
 use Rattle.reader.proofs.place_in.Statement.{statement}
 use Rattle.reader.proofs.place_in.Tie as tie
 
-sub-end : tie.Need-sub-end
-sub-end c = search needs
+sub-newline : tie.Need-sub-newline
+sub-newline c = search needs
 
 sub-place : tie.Need-sub-place
 sub-place c = search needs
@@ -32,4 +32,4 @@ unfolding placeIn textOf
 returns c = ap (λ (i : ℕ). i + 2) (place-once _ _ _ (c .place .ensures) (place-is (textOf (c .before .before .before .args .line .now))))
 
 pub place-in-spec : {M : Type 1} → statement M
-place-in-spec = tie.close (tie.spec sub-end sub-place part-place-start part-place-end place-requires add-result returns)
+place-in-spec = tie.close (tie.spec sub-newline sub-place part-place-start part-place-end place-requires add-result returns)
