@@ -58,7 +58,7 @@ static const uint64_t no_bytes = 14695981039346656037u;
 static size_t image_len, layout[BG_LAYOUT], body_size, leave_last, lump_size, line_count, step_count, out_len, request_count, reply_count;
 static size_t request_stride = PACKET;
 static uint8_t *image, *lines, *out, *memory, *requests, *replies;
-static uint32_t *line_lens, *request_lens, *reply_lens, *numbers_read;
+static uint32_t *line_lens, *line_places, *request_lens, *reply_lens, *numbers_read;
 static uint64_t sum;
 static const char *family;
 
@@ -138,13 +138,22 @@ static void run_collect(void)
 /* Reads every line of every body. */
 static void run_read(void)
 {
-    uint32_t reader[4] = {0, 0, 0, 0}, body = 0;
+    uint32_t reader[4] = {0, 0, 0, 0}, body = 0, place = 0;
     out_len = 0;
     for (size_t i = 0; i < line_count; i++) {
-        if (port->take_line(reader, lines + i * STRIDE, line_lens[i], out + out_len, LONGEST, &body) != 0)
+        if (port->take_line(reader, lines + i * STRIDE, line_lens[i], out + out_len, LONGEST, &body, &place) != 0)
             fail("a line was refused");
         out_len += body;
     }
+}
+
+/* Reads every line, each of which has a bad text. */
+static void run_bad(void)
+{
+    uint32_t reader[4] = {0, 0, 0, 0}, body = 0;
+    for (size_t i = 0; i < line_count; i++)
+        if (port->take_line(reader, lines + i * STRIDE, line_lens[i], out, LONGEST, &body, &line_places[i]) != BG_BAD_TEXT)
+            fail("a bad text was not refused");
 }
 
 /* The CRC alone of every body. */
@@ -185,12 +194,12 @@ static void run_handle(void)
 /* Sends a packet's frames and reads each; the packet comes to the output. */
 static uint32_t pass(const uint8_t *packet, size_t length, uint8_t *to)
 {
-    uint32_t reader[4] = {0, 0, 0, 0}, sent[2] = {0, 1}, body = 0;
+    uint32_t reader[4] = {0, 0, 0, 0}, sent[2] = {0, 1}, body = 0, place = 0;
     uint8_t line[STRIDE];
     for (size_t k = 0; k < sent[1]; k++) {
         if (port->send_frame(packet, length, k, line, BG_LINE, sent) != 0)
             fail("a frame was refused");
-        if (port->take_line(reader, line, sent[0], to, LONGEST, &body) != 0)
+        if (port->take_line(reader, line, sent[0], to, LONGEST, &body, &place) != 0)
             fail("a line was refused");
     }
     return body;
@@ -265,6 +274,22 @@ static void run_replay(void)
 /* Nothing has to be there before. */
 static void make_nothing(void)
 {
+}
+
+/* Sends the bodies, and spoils a character in the last group of each full line, in each of its four places in turn; other lines are left out. */
+static void make_bad(void)
+{
+    size_t kept = 0;
+    run_send();
+    for (size_t i = 0; i < line_count; i++) {
+        uint8_t *to = lines + kept * STRIDE;
+        if (line_lens[i] != BG_LINE)
+            continue;
+        memmove(to, lines + i * STRIDE, BG_LINE);
+        to[BG_LINE - 2 - kept % 4] = '-';
+        line_lens[kept++] = BG_LINE;
+    }
+    line_count = kept;
 }
 
 /* Joins the lines of every body to one stream in the output, and clears them. */
@@ -540,6 +565,15 @@ static struct result read_bodies(void)
     return (struct result){value, image_len, line_count};
 }
 
+/* The places of the bad texts. */
+static struct result found_places(void)
+{
+    uint64_t value = 0;
+    for (size_t i = 0; i < line_count; i++)
+        value = value * 31 + line_places[i];
+    return (struct result){value, total(line_lens, line_count), line_count};
+}
+
 /* The CRCs. */
 static struct result computed_crcs(void)
 {
@@ -618,6 +652,7 @@ static const struct path {
     {"read", run_send, run_read, read_bodies, BODY, 0, 0},
     {"readlong", run_send, run_read, read_bodies, LONGEST, 0, 0},
     {"readlong-open", run_send, run_read, read_bodies, LONGEST, 1, 0},
+    {"readbad", make_bad, run_bad, found_places, LONGEST, 0, 0},
     {"crc", make_nothing, run_crc, computed_crcs, BODY, 0, 0},
     {"reply", make_upload, run_reply, read_replies, 0, 0, 0},
     {"echo", make_echo_replies, run_reply, read_replies, 0, 0, 0},
@@ -672,6 +707,7 @@ static void set_up(size_t bytes)
     memory = room(bytes);
     lines = room((bytes / 64 + 16) * STRIDE);
     line_lens = room((bytes / 64 + 16) * sizeof *line_lens);
+    line_places = room((bytes / 64 + 16) * sizeof *line_places);
     out = room(2 * bytes + 2 * 65536);
     requests = room(packets * PACKET);
     replies = room(packets * PACKET);

@@ -21,8 +21,10 @@ enum { GUARD = 32, MEMORY_MAX = 1048576 + 4096, LONGEST = 65533, FILE_MAX = 8192
     is(LUMP_LONGEST, "lump: a line of 127 bytes") is(LUMP_BEYOND, "lump: used up, from a place beyond it")                              \
     is(LUMP_HELD, "lump: used up, bytes held") is(LUMP_FULL, "lump: used up, 126 bytes held")                                           \
     is(LUMP_SKIPS, "lump: used up, a line too long begins") is(LUMP_SKIPPED, "lump: used up in a line too long")                        \
-    is(LINE_2, "line: refused 2") is(LINE_3, "line: refused 3") is(LINE_4, "line: refused 4") is(LINE_5, "line: refused 5")             \
+    is(LINE_2, "line: refused 2") is(LINE_3, "line: refused 3") is(LINE_4, "line: refused 4 at a character")                            \
+    is(LINE_5, "line: refused 5")                                                                                                       \
     is(LINE_6, "line: refused 6") is(LINE_7, "line: refused 7") is(LINE_8, "line: refused 8") is(LINE_9, "line: refused 9")             \
+    is(LINE_4_SHORT, "line: refused 4 at the 0A") is(LINE_4_PADDING, "line: refused 4 at an =")                                         \
     is(LINE_MORE, "line: more is wanted") is(LINE_CRC, "line: more, the first CRC byte kept") is(LINE_BODY, "line: a packet")           \
     is(SEND_12, "frame: refused 12") is(SEND_13, "frame: refused 13") is(SEND_ONLY, "frame: the only one")                              \
     is(SEND_FIRST, "frame: the first") is(SEND_MIDDLE, "frame: in the middle") is(SEND_LAST, "frame: the last")                         \
@@ -37,6 +39,7 @@ enum { GUARD = 32, MEMORY_MAX = 1048576 + 4096, LONGEST = 65533, FILE_MAX = 8192
     is(LIST_NONE, "list: no image") is(LIST_0, "list: slot 0's image") is(LIST_1, "list: slot 1's image")                               \
     is(LIST_BOTH, "list: both images") is(LIST_3, "list: rc 3") is(LIST_7, "list: rc 7")                                                \
     is(ERASE_DONE, "erase: done") is(ERASE_3, "erase: rc 3") is(UPLOAD_3, "upload: rc 3") is(UPLOAD_8, "upload: rc 8")                  \
+    is(UPLOAD_2, "upload: rc 2") is(UPLOAD_6, "upload: rc 6")                                                                           \
     is(UPLOAD_NONE, "upload: told 0, no session") is(UPLOAD_TOLD, "upload: told n, another offset") is(UPLOAD_ADDED, "upload: added")   \
     is(UPLOAD_END, "upload: added to the end") is(UPLOAD_RESUMED, "upload: resumed") is(UPLOAD_TAGGED, "upload: started, with a tag")   \
     is(UPLOAD_BARE, "upload: started, without") is(ECHO_WRITTEN, "echo written") is(ECHO_12_LONG, "echo refused 12, over 65,533 bytes") \
@@ -71,7 +74,7 @@ struct twin {
 
 /* The records and numbers lent to one call. */
 struct numbers {
-    uint32_t record[4], answer[2], reply[12], one;
+    uint32_t record[4], answer[2], reply[12], one, place;
     uint8_t tag[32];
     size_t count;
 };
@@ -211,10 +214,15 @@ static uint32_t compare_line(size_t length)
 {
     const uint8_t *from = or_null(line, length);
     struct twin *to = &packet_buffer;
-    uint32_t said = bg_take_line(lent[0].record, from, length, to->of[0], to->length, &lent[0].one);
-    hold_numbers("take_line", said, plain_take_line(lent[1].record, from, length, to->of[1], to->length, &lent[1].one));
+    uint32_t said = bg_take_line(lent[0].record, from, length, to->of[0], to->length, &lent[0].one, &lent[0].place);
+    hold_numbers("take_line", said,
+                 plain_take_line(lent[1].record, from, length, to->of[1], to->length, &lent[1].one, &lent[1].place));
     hold("take_line", to);
-    if (said != 0)
+    if (said == BG_BAD_TEXT && lent[0].place + 1 == length)
+        met(LINE_4_SHORT);
+    else if (said == BG_BAD_TEXT && line[lent[0].place] == '=')
+        met(LINE_4_PADDING);
+    else if (said != 0)
         met(LINE_2 + said - 2);
     else if (lent[0].one != 0)
         met(LINE_BODY);
@@ -484,7 +492,18 @@ static enum outcome answer_outcome(const struct device *before, size_t length)
         return rc == 0 ? ERASE_DONE : ERASE_3;
     if (packet[0] != 2 || which != 0x101)
         return ASK_UNKNOWN;
-    return rc == 3 ? UPLOAD_3 : rc == 8 ? UPLOAD_8 : upload_outcome(before, length);
+    switch (rc) {
+    case 2:
+        return UPLOAD_2;
+    case 3:
+        return UPLOAD_3;
+    case 6:
+        return UPLOAD_6;
+    case 8:
+        return UPLOAD_8;
+    default:
+        return upload_outcome(before, length);
+    }
 }
 
 /* Gives one request to both; the controller goes on with what it leaves. */

@@ -13,12 +13,14 @@
 uint16_t plain_crc(uint16_t crc, const uint8_t *bytes, size_t length);
 
 int plain_decode(const uint8_t *text, size_t length, uint8_t *raw);
+size_t plain_fault(const uint8_t *text, size_t length, size_t from);
 size_t plain_encode(const uint8_t *raw, size_t length, uint8_t *text);
 
 uint32_t plain_collect(uint32_t collector[2], uint8_t held[126], const uint8_t *lump, size_t lump_len, size_t at, uint8_t line[127],
                        uint32_t got[2]);
 
-uint32_t plain_take_line(uint32_t reader[4], const uint8_t *line, size_t line_len, uint8_t *packet, size_t packet_len, uint32_t *body);
+uint32_t plain_take_line(uint32_t reader[4], const uint8_t *line, size_t line_len, uint8_t *packet, size_t packet_len, uint32_t *body,
+                         uint32_t *place);
 
 uint32_t plain_send_frame(const uint8_t *body, size_t body_len, size_t k, uint8_t *out, size_t out_len, uint32_t sent[2]);
 

@@ -61,7 +61,8 @@ uint16_t plain_crc(uint16_t crc, const uint8_t *bytes, size_t length)
     return crc;
 }
 
-/* Decodes a text to raw, which has room for three bytes to each four characters; returns their number, or -1 where it is not well formed. */
+/* Decodes a text to raw, which has room for three bytes to each four characters; returns their number, or where it is not well formed -1 less
+ * a place before which all groups are good. */
 int plain_decode(const uint8_t *text, size_t length, uint8_t *raw)
 {
     uint8_t *to = raw;
@@ -72,7 +73,7 @@ int plain_decode(const uint8_t *text, size_t length, uint8_t *raw)
     for (at = 0; at + 4 < length; at += 4) {
         uint8_t a = base64_value[text[at]], b = base64_value[text[at + 1]], c = base64_value[text[at + 2]], d = base64_value[text[at + 3]];
         if ((a | b | c | d) & 64)
-            return -1;
+            return -1 - (int)at;
         *to++ = (uint8_t)(a << 2 | b >> 4);
         *to++ = (uint8_t)(b << 4 | c >> 2);
         *to++ = (uint8_t)(c << 6 | d);
@@ -80,21 +81,36 @@ int plain_decode(const uint8_t *text, size_t length, uint8_t *raw)
     /* The last group may end in one or two '='. */
     uint8_t a = base64_value[text[at]], b = base64_value[text[at + 1]], c = base64_value[text[at + 2]], d = base64_value[text[at + 3]];
     if ((a | b) & 64)
-        return -1;
+        return -1 - (int)at;
     *to++ = (uint8_t)(a << 2 | b >> 4);
     if (text[at + 3] != '=') {
         if ((c | d) & 64)
-            return -1;
+            return -1 - (int)at;
         *to++ = (uint8_t)(b << 4 | c >> 2);
         *to++ = (uint8_t)(c << 6 | d);
     } else if (text[at + 2] != '=') {
         if (c & 64 || c & 3)
-            return -1;
+            return -1 - (int)at;
         *to++ = (uint8_t)(b << 4 | c >> 2);
     } else if (b & 15) {
-        return -1;
+        return -1 - (int)at;
     }
     return (int)(to - raw);
+}
+
+/* The first place of a text that is not well formed at which no well-formed text can begin with what stands up to there, or its length where it
+ * is only too short; all groups before the place given are good. */
+size_t plain_fault(const uint8_t *text, size_t length, size_t from)
+{
+    size_t at = from;
+    while (at < length && base64_value[text[at]] != 64)
+        at++;
+    size_t column = at % 4;
+    if (at == length || text[at] != '=' || column < 2 || base64_value[text[at - 1]] & (column == 2 ? 15 : 3))
+        return at;
+    /* The '=' is good, and so is a second one behind it. */
+    at++;
+    return column == 2 && at < length && text[at] == '=' ? at + 1 : at;
 }
 
 /* Encodes raw bytes to a text, which has room for four characters to each three bytes begun; returns their number. */
@@ -238,7 +254,8 @@ static uint32_t add(const struct frame *frame, uint32_t reader[4], uint8_t *pack
 }
 
 /* Takes one line. */
-uint32_t plain_take_line(uint32_t reader[4], const uint8_t *line, size_t line_len, uint8_t *packet, size_t packet_len, uint32_t *body)
+uint32_t plain_take_line(uint32_t reader[4], const uint8_t *line, size_t line_len, uint8_t *packet, size_t packet_len, uint32_t *body,
+                         uint32_t *place)
 {
     uint8_t raw[RAW];
     if (line_len > LINE)
@@ -250,8 +267,10 @@ uint32_t plain_take_line(uint32_t reader[4], const uint8_t *line, size_t line_le
         return 3;
 
     int length = plain_decode(line + 2, line_len - 3, raw);
-    if (length < 0)
+    if (length < 0) {
+        *place = (uint32_t)(2 + plain_fault(line + 2, line_len - 3, (size_t)(-1 - length)));
         return drop(reader, 4);
+    }
     struct frame frame = {.count = (uint32_t)length, .bytes = raw};
     if (initial && begin(&frame) != 0)
         return drop(reader, 6);

@@ -446,12 +446,14 @@ static uint8_t *append(const struct map *map, const struct slot *slot, uint8_t *
     return put_success(to, session[2]);
 }
 
-/* The keys of a chunk at offset 0 are as the rules have them, but for the session's tag. */
-static bool startable(const struct map *map, size_t size)
+/* The rc for the keys of a chunk at offset 0; 0 where they are as the rules have them, but for the session's tag. */
+static uint8_t start_rc(const struct map *map, size_t size)
 {
-    if (above(map, IMAGE, 0) || !has(map, LEN) || map->value[LEN].number == 0 || map->value[LEN].number > size)
-        return false;
-    return (!has(map, SHA) || map->value[SHA].number == TAG) && map->value[DATA].number <= map->value[LEN].number;
+    if (above(map, IMAGE, 0) || !has(map, LEN) || map->value[LEN].number == 0)
+        return 3;
+    if (map->value[LEN].number > size)
+        return 2;
+    return (!has(map, SHA) || map->value[SHA].number == TAG) && map->value[DATA].number <= map->value[LEN].number ? 0 : 3;
 }
 
 /* Starts a session at offset 0, or resumes the open one; returns the place after the reply. */
@@ -459,12 +461,13 @@ static uint8_t *start_session(const struct map *map, const struct slot *slot, ui
 {
     const struct value *data = &map->value[DATA], *sha = &map->value[SHA];
     uint32_t *session = slot->session;
-    if (!startable(map, slot->size))
-        return put_rc(to, 3);
+    uint8_t rc = start_rc(map, slot->size);
+    if (rc != 0)
+        return put_rc(to, rc);
     uint32_t length = (uint32_t)map->value[LEN].number;
     bool tagged = has(map, SHA), same = tagged && session[0] != 0 && session[3] != 0 && memcmp(sha->bytes, slot->tag, TAG) == 0;
     if (same && session[1] != length)
-        return put_rc(to, 3);
+        return put_rc(to, 6);
     if (above(map, UPGRADE, 0))
         return put_rc(to, 8);
     if (same)

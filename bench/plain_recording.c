@@ -4,7 +4,7 @@
 #include <stdbool.h>
 #include <string.h>
 
-enum { TRAILER = 8, HEAD = 3, TO_CONTROLLER = 0x3E, FROM_CONTROLLER = 0x3C, MEMORY = 8192, BUFFER = 1024, NUMBERS = 3 };
+enum { TRAILER = 8, HEAD = 3, TO_CONTROLLER = 0x3E, FROM_CONTROLLER = 0x3C, MEMORY = 8192, BUFFER = 1024, NUMBERS = 4 };
 
 /* A number of 4 bytes, the high one first. */
 static inline size_t number32(const uint8_t *at)
@@ -57,8 +57,8 @@ uint32_t plain_replay(const uint8_t *file, size_t file_len, uint8_t memory[8192]
         if (file[at] != TO_CONTROLLER)
             continue;
         uint32_t body = 0, answer[2], numbers[12] = {0}, *to = answers + NUMBERS * lines++;
-        to[0] = plain_take_line(reader, file + at + HEAD, length - HEAD, packet, BUFFER, &body);
-        to[1] = to[2] = 0;
+        to[1] = to[2] = to[3] = 0;
+        to[0] = plain_take_line(reader, file + at + HEAD, length - HEAD, packet, BUFFER, &body, &to[3]);
         if (to[0] != 0 || body == 0)
             continue;
         to[0] = plain_handle(layout, memory, MEMORY, session, tag, packet, body, reply, BUFFER, answer);
@@ -82,7 +82,7 @@ static inline size_t digits(size_t number)
 }
 
 /* The length of an answer's line, of this number. */
-static size_t line_length(size_t k, const uint32_t answer[3])
+static size_t line_length(size_t k, const uint32_t answer[NUMBERS])
 {
     return digits(k) + 1 + digits(answer[0]) + 1 + (answer[1] != 0 ? digits(answer[2]) : 1) + 1;
 }

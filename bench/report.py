@@ -21,6 +21,7 @@ PATHS = {
     "read": "reader, bodies of 512",
     "readlong": "reader, bodies of 65,533",
     "readlong-open": "reader, long, no CRC",
+    "readbad": "reader, bad texts",
     "crc": "CRC alone",
     "reply": "upload replies read",
     "echo": "echo replies read",
@@ -37,7 +38,7 @@ PATHS = {
     "replay": "a recording replayed",
 }
 # The paths whose calls are counted too.
-CALLS = ["collect256", "collect64", "collect16", "collect1", "reply", "echo", "pairs", "handle", "chunks", "unknown", "worst",
+CALLS = ["collect256", "collect64", "collect16", "collect1", "readbad", "reply", "echo", "pairs", "handle", "chunks", "unknown", "worst",
          "erase", "list0", "list60000"]
 # The archive's function that computes the CRC, and the path whose bytes it is counted on: no call gives the CRC alone.
 CRC, CRC_PATH = "crc::continued", "send"
@@ -220,8 +221,8 @@ def growth(m):
 def begun(m):
     """The page's first paragraph."""
     return wrapped(f"""`bench/run` builds programs of the same behaviour and measures them on the same buffers: the proved
-        archive, the port in plain C (`bench/plain_frame.c`, `bench/plain_packet.c`) in three builds, and the second program
-        in Rust. It compares what they produce, path by path, and fails where they disagree; in this run
+        archive, the port in plain C (`bench/plain_frame.c`, `bench/plain_packet.c`, `bench/plain_recording.c`) in three
+        builds, and the second program in Rust. It compares what they produce, path by path, and fails where they disagree; in this run
         they agreed on all paths. `bench/peer.c` compares each plain C call with the archive's on generated inputs, valid
         and damaged, every lent byte and number: {m.compared:,} calls in this run, no difference, every refusal and rc
         met. All of them compute the CRC by a table of 256 entries.""")
@@ -285,6 +286,9 @@ What the last frame of each body of 65,533 bytes adds, which is where the CRC is
 - The image is 1 MiB of pseudo-random bytes of a fixed seed. Sender and reader: the image is cut into bodies of 512
   bytes (the packet size that the upload program takes) or 65,533 (the longest); a byte is a byte of the body.
   "No CRC": the last frame of each body is left out, and with it the CRC in all programs.
+- Bad texts: the full lines of the bodies of 65,533, each with a character of no value in its last group, in each of its
+  four places in turn; all programs give the place. The Rust program finds it by trying which beginnings of the text can
+  go on. A byte is a byte of the line.
 - CRC alone: the bodies of 512. The archive has no call for it: counted is what its function takes while these bodies are
   sent, the table that it takes for each of them included.
 - Collector: the lines of the bodies of 512 as one stream, which is cut into lumps of one length, and each lump is gone

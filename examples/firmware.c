@@ -37,9 +37,9 @@ static void put(int descriptor, const uint8_t *bytes, size_t len)
 /* Takes a line: where it completes a request, does it and sends the reply's frames; 1 for a reset. */
 static int take_line(size_t len)
 {
-    uint32_t body = 0, answer[2] = {0, 0}, sent[2] = {0, 1};
+    uint32_t body = 0, place = 0, answer[2] = {0, 0}, sent[2] = {0, 1};
 
-    if (bg_take_line(reader, line, len, packet, PACKET, &body) != 0 || body == 0 ||
+    if (bg_take_line(reader, line, len, packet, PACKET, &body, &place) != 0 || body == 0 ||
         bg_handle(layout, memory, MEMORY, session, tag, packet, body, reply, PACKET, answer) != 0) {
         return 0;
     }

@@ -130,8 +130,8 @@ private:
     bool answered(std::uint32_t group, std::uint32_t command, Clock::time_point until)
     {
         while (std::size_t len = next_line(until)) {
-            std::uint32_t body = 0;
-            if (bg_take_line(reader_, line_, len, answer_.data(), answer_.size(), &body) == 0 && body > 0 &&
+            std::uint32_t body = 0, place = 0;
+            if (bg_take_line(reader_, line_, len, answer_.data(), answer_.size(), &body, &place) == 0 && body > 0 &&
                 bg_read_reply(answer_.data(), body, reply_) == 0 && reply_[0] == 3 && reply_[3] == group &&
                 reply_[4] == sequence_ && reply_[5] == command) {
                 return true;

@@ -105,13 +105,13 @@ static void __attribute__((format(printf, 2, 3), noreturn)) fail(int code, const
     exit(code);
 }
 
-/* Counts a refusal and logs it by number and words. */
-static void log_refusal(struct controller *c, const char *what, uint32_t refusal, size_t len)
+/* Counts the refusal of something of so many bytes, and logs it by number and words, bad text with its place. */
+static void log_refusal(struct controller *c, const char *what, size_t len, uint32_t refusal, uint32_t place)
 {
     c->refused++;
     if (!c->options.quiet) {
-        fprintf(stderr, "controller: refused %u (%s): a %s of %zu bytes\n", refusal, refusal_words(refusal), what,
-                len);
+        fprintf(stderr, "controller: refused %u (%s): a %s of %zu bytes\n", refusal,
+                line_refusal_words(refusal, place, len), what, len);
     }
 }
 
@@ -324,7 +324,7 @@ static void send_reply(struct controller *c, size_t len)
         uint8_t line[BG_LINE];
         uint32_t refusal = bg_send_frame(c->reply, len, k, line, sizeof line, sent);
         if (refusal != 0) {
-            log_refusal(c, "reply", refusal, len);
+            log_refusal(c, "reply", len, refusal, 0);
             return;
         }
         chatter(c);
@@ -356,7 +356,7 @@ static void take_packet(struct controller *c, size_t len)
                                  c->reply_room, answer);
 
     if (refusal != 0) {
-        log_refusal(c, "packet", refusal, len);
+        log_refusal(c, "packet", len, refusal, 0);
         return;
     }
     c->packets++;
@@ -378,6 +378,7 @@ static void take_packet(struct controller *c, size_t len)
 static void take_line(struct controller *c, uint32_t refusal)
 {
     uint32_t body = 0;
+    uint32_t place = 0;
 
     c->lines++;
     if (strikes(c, c->options.drop)) {
@@ -386,10 +387,11 @@ static void take_line(struct controller *c, uint32_t refusal)
     }
     if (refusal == 0) {
         damage(c, c->in.line, c->in.line_len);
-        refusal = bg_take_line(c->reader, c->in.line, c->in.line_len, c->packet, c->options.packet_buffer, &body);
+        refusal = bg_take_line(c->reader, c->in.line, c->in.line_len, c->packet, c->options.packet_buffer, &body,
+                               &place);
     }
     if (refusal != 0) {
-        log_refusal(c, "line", refusal, c->in.line_len);
+        log_refusal(c, "line", c->in.line_len, refusal, place);
     } else if (body > 0) {
         take_packet(c, body);
     }

@@ -260,8 +260,8 @@ static size_t send_request(struct host *h, bool after_silence)
     return bytes;
 }
 
-/* Notes a line or a packet that is no reply. */
-static void note_no_reply(struct host *h, uint32_t refusal)
+/* Notes a line or a packet that is no reply, with the place of bad text. */
+static void note_no_reply(struct host *h, uint32_t refusal, uint32_t place)
 {
     h->bad_lines++;
     if (refusal == BG_LINE_TOO_LONG || refusal == BG_NO_FRAME) {
@@ -270,6 +270,8 @@ static void note_no_reply(struct host *h, uint32_t refusal)
     }
     if (h->heard.not_replies == 0) {
         h->heard.first_refusal = refusal;
+        h->heard.first_place = place;
+        h->heard.first_len = h->in.line_len;
     }
     h->heard.not_replies++;
 }
@@ -279,16 +281,17 @@ static void note_no_reply(struct host *h, uint32_t refusal)
 static bool take_line(struct host *h, uint32_t refusal)
 {
     uint32_t body = 0;
+    uint32_t place = 0;
     bool same;
 
     if (refusal == 0) {
-        refusal = bg_take_line(h->reader, h->in.line, h->in.line_len, h->answer, sizeof h->answer, &body);
+        refusal = bg_take_line(h->reader, h->in.line, h->in.line_len, h->answer, sizeof h->answer, &body, &place);
     }
     if (refusal == 0 && body > 0) {
         refusal = bg_read_reply(h->answer, body, h->reply);
     }
     if (refusal != 0) {
-        note_no_reply(h, refusal);
+        note_no_reply(h, refusal, place);
         return false;
     }
     if (body == 0) {
@@ -379,7 +382,8 @@ void finish_unanswered(const struct host *h, unsigned tries, const char *advice)
     }
     if (heard->not_replies > 0) {
         add_words(text, sizeof text, "; it answered %lu times with what is not a reply (the first: refusal %u, %s)",
-                  heard->not_replies, heard->first_refusal, refusal_words(heard->first_refusal));
+                  heard->not_replies, heard->first_refusal,
+                  line_refusal_words(heard->first_refusal, heard->first_place, heard->first_len));
     }
     if (heard->others > 0) {
         add_words(text, sizeof text, "; %lu replies to what was not asked came", heard->others);

@@ -43,12 +43,15 @@ struct options {
 };
 
 /* What came since the last answer: bytes, lines that are no frames, frames and packets that are no reply and the first
- * one's refusal, replies of other sequence numbers, and other replies. */
+ * one's refusal with the place of bad text and the line's length, replies of other sequence numbers, and other
+ * replies. */
 struct heard {
     unsigned long bytes;
     unsigned long lines;
     unsigned long not_replies;
     uint32_t first_refusal;
+    uint32_t first_place;
+    size_t first_len;
     unsigned long late;
     unsigned long others;
 };

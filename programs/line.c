@@ -329,6 +329,23 @@ const char *refusal_words(uint32_t refusal)
     return refusal < sizeof words / sizeof words[0] ? words[refusal] : "a refusal of no known number";
 }
 
+/* The words for the refusal of a line of so many bytes: bad text with its place in the line, which is that of the 0A
+ * where the text is only too short. They stand until the next call. */
+const char *line_refusal_words(uint32_t refusal, uint32_t place, size_t line_len)
+{
+    static char words[64];
+
+    if (refusal != BG_BAD_TEXT) {
+        return refusal_words(refusal);
+    }
+    if (place + 1u == line_len) {
+        snprintf(words, sizeof words, "the text ends too early, at place %u", place);
+    } else {
+        snprintf(words, sizeof words, "the text at place %u is not Base64", place);
+    }
+    return words;
+}
+
 /* The name of a return code, from the protocol's list. */
 const char *rc_name(uint32_t rc)
 {

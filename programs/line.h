@@ -80,6 +80,10 @@ void end_version(void) __attribute__((noreturn));
 /* The words for a refusal's number, as in belagunthi.h. */
 const char *refusal_words(uint32_t refusal);
 
+/* The same for the refusal of a line of so many bytes: bad text with its place in the line. They stand until the next
+ * call. */
+const char *line_refusal_words(uint32_t refusal, uint32_t place, size_t line_len);
+
 /* The name of a return code, from the protocol's list. */
 const char *rc_name(uint32_t rc);
 

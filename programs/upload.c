@@ -23,8 +23,9 @@ enum { REQUEST_MOST = 512, SLOT_MOST = 1048576 };
  * largest chunk that is then advised. */
 enum { SILENCES_TO_ASK = 3, ECHO_TRIES = 3, CHUNK_ADVISED = 64 };
 
-/* The rc of a request that cannot be. */
-enum { RC_INVALID = 3 };
+/* The rcs that a request at offset 0 may meet: for an image larger than the slot, for a request that cannot be, and for
+ * the open session's tag with another length. Older controllers answer all three with the second. */
+enum { RC_ABOVE_SLOT = 2, RC_INVALID = 3, RC_OTHER_LENGTH = 6 };
 
 /* Where an upload is: the next request's offset, whether it is the check at the end, the most bytes ever acknowledged,
  * silences in a row, and returns to offset 0 since the most grew. */
@@ -168,6 +169,21 @@ static void go_on(struct host *h, struct course *c)
     }
 }
 
+/* What an rc at offset 0 says of the image, and what helps; nothing where that is not known. */
+static const char *advice_at_start(uint32_t rc)
+{
+    switch (rc) {
+    case RC_ABOVE_SLOT:
+        return ": the image is larger than the controller's slot";
+    case RC_INVALID:
+        return ": is the image larger than the controller's slot?";
+    case RC_OTHER_LENGTH:
+        return ": another session with the same tag and another length is open; --erase ends it, and so does a reset";
+    default:
+        return "";
+    }
+}
+
 /* Follows the answer to a request at an offset with so many bytes. */
 static void follow(struct host *h, struct course *c, size_t len, enum outcome outcome)
 {
@@ -176,8 +192,7 @@ static void follow(struct host *h, struct course *c, size_t len, enum outcome ou
     c->silences = 0;
     if (outcome == ANSWERED_RC &&
         (off == 0 || h->reply[BG_REPLY_RC] != RC_INVALID || c->returns >= h->options.retries)) {
-        bool too_large = off == 0 && h->reply[BG_REPLY_RC] == RC_INVALID;
-        finish_rc(h, too_large ? ": is the image larger than the controller's slot?" : "");
+        finish_rc(h, off == 0 ? advice_at_start(h->reply[BG_REPLY_RC]) : "");
     }
     if (outcome == ANSWERED) {
         check_offset(h, off, len);

@@ -20,6 +20,7 @@ extern "C" {
         packet: *mut u8,
         packet_len: usize,
         body: *mut u32,
+        place: *mut u32,
     ) -> u32;
     fn bg_send_frame(
         body: *const u8,
@@ -249,13 +250,14 @@ pub fn call(call: &Call, place: Place) -> Outcome {
                 line.pointer(),
                 got.pointer(),
             ),
-            (Kind::TakeLine, [reader, body], [line, packet]) => bg_take_line(
+            (Kind::TakeLine, [reader, body, place], [line, packet]) => bg_take_line(
                 reader.pointer(),
                 line.pointer(),
                 line.length,
                 packet.pointer(),
                 packet.length,
                 body.pointer(),
+                place.pointer(),
             ),
             (Kind::SendFrame, [sent], [body, out]) => bg_send_frame(
                 body.pointer(),

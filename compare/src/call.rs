@@ -66,7 +66,9 @@ impl Kind {
             Kind::Collect => {
                 ("bg_collect", &["at"], &[("collector", 2), ("got", 2)], &["held", "lump", "line"])
             }
-            Kind::TakeLine => ("bg_take_line", &[], &[("reader", 4), ("body", 1)], &["line", "packet"]),
+            Kind::TakeLine => {
+                ("bg_take_line", &[], &[("reader", 4), ("body", 1), ("place", 1)], &["line", "packet"])
+            }
             Kind::SendFrame => ("bg_send_frame", &["k"], &[("sent", 2)], &["body", "out"]),
             Kind::Configure => (
                 "bg_configure",
@@ -164,13 +166,12 @@ pub fn collect(
     }
 }
 
-/// Takes a line.
-pub fn take_line(reader: [u32; 4], line: Vec<u8>, packet: Vec<u8>, body: u32) -> Call {
-    let [a, b, c, d] = reader;
+/// Takes a line; body and place are these at first.
+pub fn take_line(reader: [u32; 4], line: Vec<u8>, packet: Vec<u8>, body_and_place: [u32; 2]) -> Call {
     Call {
         kind: Kind::TakeLine,
         numbers: vec![],
-        words: vec![a, b, c, d, body],
+        words: [&reader[..], &body_and_place].concat(),
         sizes: vec![],
         buffers: vec![line, packet],
     }
@@ -371,8 +372,8 @@ pub fn by_second(call: &Call) -> Outcome {
                 got.try_into().unwrap(),
             )
         }
-        (Kind::TakeLine, [reader @ .., body], [line, packet]) => {
-            port::take_line(reader.try_into().unwrap(), line, packet, body)
+        (Kind::TakeLine, [reader @ .., body, place], [line, packet]) => {
+            port::take_line(reader.try_into().unwrap(), line, packet, body, place)
         }
         (Kind::SendFrame, sent, [body, out]) => {
             port::send_frame(body, numbers[0] as usize, out, sent.try_into().unwrap())

@@ -4,8 +4,10 @@ mod frames;
 mod reads;
 mod recordings;
 mod regions;
+mod starts;
 mod steps;
 mod sums;
+mod texts;
 
 use crate::call::{Call, Kind, Outcome};
 
@@ -50,8 +52,10 @@ pub fn all() -> Vec<Name> {
     let lines = steps::STEPS.names().chain(sums::SUMS.names()).chain(frames::FRAMES.names());
     let files = recordings::FILES.names().chain(recordings::RECORDS.names());
     let replays = recordings::REPLAYS.names().chain(recordings::TRANSCRIPTS.names());
-    let mut all: Vec<(usize, Name)> =
-        lines.chain(configured).chain(handled).chain(reads).chain(files).chain(replays).collect();
+    let texts = texts::TAKEN.names().chain(texts::REPLAYED.names());
+    let starts = starts::HANDLED.names().chain(starts::SINGLE.names()).chain(starts::REPLAYED.names());
+    let packets = configured.chain(handled).chain(reads).chain(starts);
+    let mut all: Vec<(usize, Name)> = lines.chain(texts).chain(packets).chain(files).chain(replays).collect();
     all.sort();
     all.into_iter().map(|(_, name)| name).collect()
 }
@@ -60,7 +64,10 @@ pub fn all() -> Vec<Name> {
 pub fn add(call: &Call, outcome: &Outcome, list: &mut Vec<usize>) {
     match call.kind {
         Kind::Collect => steps::add(call, outcome, list),
-        Kind::TakeLine => sums::add_read(call, outcome, list),
+        Kind::TakeLine => {
+            sums::add_read(call, outcome, list);
+            texts::add(call, outcome, list);
+        }
         Kind::SendFrame => {
             sums::add_sent(call, outcome, list);
             frames::add(call, outcome, list);
@@ -69,6 +76,7 @@ pub fn add(call: &Call, outcome: &Outcome, list: &mut Vec<usize>) {
         Kind::Handle => {
             regions::add(call, outcome, list);
             reads::add(call, outcome, list);
+            starts::add(call, outcome, list);
         }
         Kind::ReadReply => reads::add_reply(call, outcome, list),
         Kind::FirstRecord => recordings::add_file(call, outcome, list),

@@ -14,7 +14,7 @@ fn over_the_line(harness: &mut Harness, rng: &mut Rng, body: &[u8]) -> Vec<u8> {
         let out = rng.bytes(127);
         let sent = harness.check(send_frame(body.to_vec(), k, out, [rng.word(), rng.word()]));
         let line = sent.buffers[1][..sent.words[0] as usize].to_vec();
-        let taken = harness.check(take_line(reader, line, packet, rng.word()));
+        let taken = harness.check(take_line(reader, line, packet, [rng.word(), rng.word()]));
         reader = taken.words[..4].try_into().unwrap();
         packet = taken.buffers.into_iter().nth(1).unwrap();
         k += 1;

@@ -54,8 +54,56 @@ pub fn cut(rng: &mut Rng, body: &[u8]) -> Vec<Vec<u8>> {
     lines
 }
 
+/// Good groups of a text.
+fn groups(rng: &mut Rng, number: usize) -> Vec<u8> {
+    base64::encode(&rng.bytes(number * 3))
+}
+
+/// A byte that has no value in a text, nor pads one: a line end, near to a character that has, or any.
+fn no_value(rng: &mut Rng) -> u8 {
+    let byte = match rng.below(4) {
+        0 => rng.pick(b"\n\r\r"),
+        1 => rng.byte(),
+        _ => rng.pick(b"-_.,:;@[`{ *\0\x09\x7F\x80\xC1\xFF"),
+    };
+    if byte.is_ascii_alphanumeric() || b"+/=".contains(&byte) {
+        return b'-';
+    }
+    byte
+}
+
+/// A group at which a text goes wrong, in each of the ways that it can; behind a padded group something more.
+fn bad_group(rng: &mut Rng) -> Vec<u8> {
+    let mut group = groups(rng, 1);
+    match rng.below(13) {
+        0..=3 => group[rng.below(4)] = no_value(rng),
+        4 => group[0] = b'=',
+        5 => group[1] = b'=',
+        // The lower four bits of the second, then the lower two of the third.
+        6 => {
+            group[1] = rng.pick(b"BCPRxz159/");
+            group[2..].fill(b'=');
+        }
+        7 => group[1..3].copy_from_slice(rng.pick(&[b"B=", b"P=", b"/="])),
+        8 => {
+            group[2] = rng.pick(b"BCDFxz159/");
+            group[3] = b'=';
+        }
+        9 => group[1..3].copy_from_slice(b"A="),
+        10 => group[1..].copy_from_slice(&[b'A', b'=', no_value(rng)]),
+        _ => {
+            group.truncate(1);
+            group.extend_from_slice(rng.pick(&[b"A==", b"AA=", b"w==", b"/8="]));
+            group.push(rng.pick(b"A/===-"));
+            group.extend(groups(rng, 1));
+            group.truncate(rng.range(5, 8));
+        }
+    }
+    group
+}
+
 /// A text that is not well-formed Base64, or nearly so.
-pub fn bad_text(rng: &mut Rng) -> Vec<u8> {
+fn bad_text(rng: &mut Rng) -> Vec<u8> {
     let texts: [&[u8]; 24] = [
         b"",
         b"A",
@@ -82,9 +130,43 @@ pub fn bad_text(rng: &mut Rng) -> Vec<u8> {
         b"AB==",
         b"AAB=",
     ];
-    let start = rng.below(31);
-    let good = base64::encode(&rng.bytes(start * 3));
-    [&good[..], rng.pick(&texts)].concat()
+    let before = if rng.once_in(4) { rng.pick(&[0, 0, 0, 1, 29, 30]) } else { rng.below(31) };
+    let mut text = groups(rng, before);
+    match rng.below(14) {
+        0 => text.extend_from_slice(rng.pick(&texts)),
+        // Only too short.
+        1 | 2 => {
+            text.extend(groups(rng, 1));
+            text.truncate(text.len() - rng.range(1, 3));
+        }
+        3 => text.extend_from_slice(rng.pick(&[b"AA=", b"Zg="])),
+        4 => text.clear(),
+        // A good line that ends in 0D 0A.
+        5 => text.push(b'\r'),
+        // The last group of a full line.
+        6 => {
+            text = groups(rng, 31);
+            text[rng.range(120, 123)] = no_value(rng);
+        }
+        _ => {
+            text.extend(bad_group(rng));
+            if before < 29 && rng.once_in(2) {
+                let behind = rng.range(1, 29 - before);
+                text.extend(groups(rng, behind));
+            }
+            if rng.once_in(4) {
+                let at = rng.below(text.len());
+                text[at] = no_value(rng);
+            }
+        }
+    }
+    text
+}
+
+/// A line with such a text.
+pub fn with_bad_text(rng: &mut Rng) -> Vec<u8> {
+    let marker = rng.pick(&[INITIAL, PARTIAL]);
+    [&marker[..], &bad_text(rng), b"\n"].concat()
 }
 
 /// Damages a line in one of the ways that lines are damaged.
@@ -139,10 +221,7 @@ pub fn damage(rng: &mut Rng, line: &mut Vec<u8>) {
             let at = 2 + text - 1 - rng.below(2);
             line[at] = b'=';
         }
-        10 => {
-            let text = bad_text(rng);
-            *line = [&rng.pick(&[INITIAL, PARTIAL])[..], &text, b"\n"].concat();
-        }
+        10 => *line = with_bad_text(rng),
         _ => line.extend_from_slice(rng.pick(&[&b"\n"[..], b"\r\n", b"AAAA", b"\0"])),
     }
 }
@@ -244,7 +323,7 @@ pub fn history(harness: &mut Harness, rng: &mut Rng) {
                 _ => reader[3] = rng.byte() as u32,
             }
         }
-        let outcome = harness.check(take_line(reader, line, packet, rng.word()));
+        let outcome = harness.check(take_line(reader, line, packet, [rng.word(), rng.word()]));
         reader = outcome.words[..4].try_into().unwrap();
         packet = outcome.buffers.into_iter().nth(1).unwrap();
     }
@@ -320,10 +399,7 @@ pub fn single(harness: &mut Harness, rng: &mut Rng) {
             let length = rng.range(1, 93);
             sender::line(PARTIAL, &rng.bytes(length))
         }
-        8 => {
-            let text = bad_text(rng);
-            [&rng.pick(&[INITIAL, PARTIAL])[..], &text, b"\n"].concat()
-        }
+        8 => with_bad_text(rng),
         _ => noise(rng),
     };
     if rng.once_in(3) {
@@ -332,5 +408,13 @@ pub fn single(harness: &mut Harness, rng: &mut Rng) {
     if rng.once_in(50) {
         packet.clear();
     }
-    harness.check(take_line(reader, line, packet, rng.word()));
+    harness.check(take_line(reader, line, packet, [rng.word(), rng.word()]));
+}
+
+/// One line with a bad text, for any record.
+pub fn bad(harness: &mut Harness, rng: &mut Rng) {
+    harness.kind("lines: bad texts");
+    let line = with_bad_text(rng);
+    let room = rng.below(120);
+    harness.check(take_line(record(rng), line, rng.bytes(room), [rng.word(), rng.word()]));
 }

@@ -45,14 +45,16 @@ once in five thousand of N, or less than 1000 times where N is more than five mi
 type Generator = fn(&mut Harness, &mut Rng);
 
 /// The generators of random inputs, each with how often it is used.
-const GENERATORS: [(usize, Generator); 20] = [
+const GENERATORS: [(usize, Generator); 24] = [
     (150, lumps::single),
     (1, lumps::stream),
     (200, lines::single),
     (6, lines::history),
+    (80, lines::bad),
     (80, sends::single),
     (34, sends::edge),
     (200, requests::single),
+    (220, requests::starts),
     (9, requests::history),
     (1, requests::configure),
     (180, images::single),
@@ -62,9 +64,11 @@ const GENERATORS: [(usize, Generator); 20] = [
     (110, replies::single),
     (1, exchange::run),
     (36, recordings::files),
-    (108, recordings::small_files),
-    (120, recordings::replays),
-    (90, recordings::transcripts),
+    (132, recordings::small_files),
+    (130, recordings::replays),
+    (13, recordings::texts),
+    (14, recordings::starts),
+    (96, recordings::transcripts),
     (1, recordings::by_hand),
 ];
 

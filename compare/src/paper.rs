@@ -2,6 +2,7 @@
 
 use crate::call::*;
 use crate::harness::Harness;
+use second::replay::ANSWER;
 use second::sender;
 
 const IDLE: [u32; 4] = [0; 4];
@@ -61,9 +62,9 @@ fn edges(harness: &mut Harness) {
     harness.expect(send_frame(vec![0; 8], 0, vec![0xEE; 127], [5, 5]), |outcome| {
         outcome.returned == 0 && outcome.words == [19, 1] && outcome.buffers[1][..19] == line
     });
-    harness.expect(take_line(IDLE, line.clone(), vec![0xEE; 9], 5), |outcome| {
+    harness.expect(take_line(IDLE, line.clone(), vec![0xEE; 9], [5, 6]), |outcome| {
         outcome.returned == 0
-            && outcome.words == [0, 0, 0, 0, 8]
+            && outcome.words == [0, 0, 0, 0, 8, 6]
             && outcome.buffers[1] == [0, 0, 0, 0, 0, 0, 0, 0, 0xEE]
     });
     harness.expect(on_slot(IDLE, [0; 32], vec![0; 8]), |outcome| {
@@ -115,9 +116,11 @@ fn edges(harness: &mut Harness) {
             && outcome.words[..4] == [1, 20, 2, 0]
             && outcome.buffers[0] == started(&[1, 2])
     });
-    harness.expect(on_slot(IDLE, [0; 32], upload(&[1, 2], 0, 21, &[])), |outcome| {
-        map(outcome) == rc(3) && left_alone(outcome, IDLE, [0; 32])
-    });
+    for length in [21, 4_294_967_295] {
+        harness.expect(on_slot(IDLE, [0; 32], upload(&[1, 2], 0, length, &[])), |outcome| {
+            map(outcome) == rc(2) && left_alone(outcome, IDLE, [0; 32])
+        });
+    }
     let open = [1, 10, 4, 0];
     harness.expect(on_slot(open, [0; 32], upload(&[7; 6], 4, 0, &[])), |outcome| {
         let mut memory = vec![0x11; 40];
@@ -152,9 +155,11 @@ fn errors(harness: &mut Harness) {
             map(outcome) == rc(3) && left_alone(outcome, open, tag)
         });
     }
-    harness.expect(on_slot(open, tag, upload(&[7; 3], 0, 11, &tag)), |outcome| {
-        map(outcome) == rc(3) && left_alone(outcome, open, tag)
-    });
+    for length in [3, 9, 11, 20] {
+        harness.expect(on_slot(open, tag, upload(&[7; 3], 0, length, &tag)), |outcome| {
+            map(outcome) == rc(6) && left_alone(outcome, open, tag)
+        });
+    }
     harness.expect(on_slot(open, tag, upload(&[7; 3], 0, 10, &tag)), |outcome| {
         map(outcome) == success(4) && left_alone(outcome, open, tag)
     });
@@ -172,21 +177,21 @@ fn errors(harness: &mut Harness) {
         let raw = [0, 10, 1, 2, 3, 4, 5, 6, 7, 8];
         let crc = second::crc::crc16(if with_total { &raw } else { &raw[2..] });
         let line = sender::line([6, 9], &[&raw[..], &crc.to_be_bytes()].concat());
-        harness.expect(take_line([1, 40, 3, 0], line, vec![0xEE; 8], 5), |outcome| {
+        harness.expect(take_line([1, 40, 3, 0], line, vec![0xEE; 8], [5, 6]), |outcome| {
             outcome.returned == answer && outcome.words[..4] == IDLE
         });
     }
     // A frame of 4 raw bytes, whose text ends in padding, and then the rest.
-    harness.expect(take_line(IDLE, b"\x06\x09AAsBAg==\x0A".to_vec(), vec![0; 9], 5), |outcome| {
-        outcome.returned == 0 && outcome.words == [1, 11, 2, 0, 0] && outcome.buffers[1][..3] == [1, 2, 0]
+    harness.expect(take_line(IDLE, b"\x06\x09AAsBAg==\x0A".to_vec(), vec![0; 9], [5, 6]), |outcome| {
+        outcome.returned == 0 && outcome.words == [1, 11, 2, 0, 0, 6] && outcome.buffers[1][..3] == [1, 2, 0]
     });
-    harness.expect(take_line([1, 11, 2, 0], b"\x04\x14AA\x0A".to_vec(), vec![0; 9], 5), |outcome| {
-        outcome.returned == 4 && outcome.words == [0, 0, 0, 0, 5]
+    harness.expect(take_line([1, 11, 2, 0], b"\x04\x14AA\x0A".to_vec(), vec![0; 9], [5, 6]), |outcome| {
+        outcome.returned == 4 && outcome.words == [0, 0, 0, 0, 5, 4]
     });
     // A console line between.
     for (line, answer) in [(&b"hello\r\n"[..], 3), (b"\n", 3), (b"", 3), (&[b'x'; 128], 2)] {
-        harness.expect(take_line([1, 11, 2, 0], line.to_vec(), vec![0; 9], 5), |outcome| {
-            outcome.returned == answer && outcome.words == [1, 11, 2, 0, 5]
+        harness.expect(take_line([1, 11, 2, 0], line.to_vec(), vec![0; 9], [5, 6]), |outcome| {
+            outcome.returned == answer && outcome.words == [1, 11, 2, 0, 5, 6]
         });
     }
 }
@@ -333,6 +338,120 @@ fn images(harness: &mut Harness) {
     harness.expect(read_reply(reply, [5; 12]), |outcome| outcome.returned == 10 && outcome.words == [5; 12]);
 }
 
+/// The place of a bad text, by the sentence: no well-formed text begins with what stands up to there, or the 0A's.
+fn places(harness: &mut Harness) {
+    harness.kind("the places of bad texts: both sides of each edge");
+    let texts: [(&[u8], u32); 34] = [
+        (b"", 2),
+        (b"A", 3),
+        (b"AA", 4),
+        (b"AAA", 5),
+        (b"AA=", 5),
+        (b"AAAAA", 7),
+        (b"AAAAAAA", 9),
+        (b"-AAA", 2),
+        (b"A-AA", 3),
+        (b"AA-A", 4),
+        (b"AA_A", 4),
+        (b"AAA-", 5),
+        (b"AAAAAA A", 8),
+        (b"A--A", 3),
+        (b"=AAA", 2),
+        (b"====", 2),
+        (b"A=AA", 3),
+        (b"A===", 3),
+        (b"AAAA=", 6),
+        (b"AB==", 4),
+        (b"Zh==", 4),
+        (b"AB=", 4),
+        (b"AB=A", 4),
+        (b"AAB=", 5),
+        (b"Zm9=", 5),
+        (b"AA=A", 5),
+        (b"AA=-", 5),
+        (b"AA==A", 6),
+        (b"AA==AAAA", 6),
+        (b"AAA=AAAA", 6),
+        (b"AAA==", 6),
+        (b"AA\nA", 4),
+        (b"AAAA\r", 6),
+        (b"\n\n", 2),
+    ];
+    for (text, place) in texts {
+        for (marker, reader) in [([6, 9], IDLE), ([4, 20], [1, 20, 0, 0]), ([4, 20], [1, 9, 3, 0])] {
+            let line = [&marker, text, b"\x0A"].concat();
+            harness.expect(take_line(reader, line, vec![0xEE; 18], [5, 6]), |outcome| {
+                outcome.returned == 4
+                    && outcome.words == [0, 0, 0, 0, 5, place]
+                    && outcome.buffers[1] == [0xEE; 18]
+            });
+        }
+        let line = [b"\x06\x09", text, b"\x0A"].concat();
+        harness.expect(replay(recording(&[&line]), bench(), vec![77; 5], 78), |outcome| {
+            outcome.returned == 0 && outcome.words[8..] == [4, 0, 0, place, 77]
+        });
+    }
+    // Every other refusal leaves the place, and so does a line that is taken.
+    let lines: [(&[u8], u32); 7] = [
+        (&[b'-'; 128], 2),
+        (b"\x06\x09A-AA", 3),
+        (b"\x04\x14AAAA\n", 5),
+        (b"\x06\x09AAAA\n", 6),
+        (b"\x06\x09//8A\n", 7),
+        (b"\x06\x09AAoAAAAAAAAAAAAAAAAA\n", 8),
+        (b"\x06\x09AAoAAAAAAAAAAAAB\n", 9),
+    ];
+    for (line, refusal) in lines {
+        harness.expect(take_line(IDLE, line.to_vec(), vec![0xEE; 18], [5, 6]), |outcome| {
+            outcome.returned == refusal && outcome.words == [0, 0, 0, 0, 5, 6]
+        });
+        harness.expect(replay(recording(&[line]), bench(), vec![77; 4], 78), |outcome| {
+            outcome.returned == 0 && outcome.words[8..] == [refusal, 0, 0, 0]
+        });
+    }
+}
+
+/// The checks at offset 0 in the order listed, by two reasons at once.
+fn orders(harness: &mut Harness) {
+    harness.kind("uploads: the order of rc 3, 2, 6 and 8");
+    let tag = [8; 32];
+    let open = [1, 10, 4, 1];
+    let len = |length: u64| [&b"\x63len\x1B"[..], &length.to_be_bytes()].concat();
+    let sha = [&b"\x63sha\x58\x20"[..], &tag].concat();
+    let short = [&b"\x63sha\x58\x1F"[..], &tag[1..]].concat();
+    let (above, over, image, upgrade) = (len(21), len(1 << 32), b"\x65image\x01", b"\x67upgrade\xF5");
+    // The pairs beside three bytes of data at offset 0, and the rc.
+    let uploads: [(&[&[u8]], u8); 15] = [
+        (&[&above], 2),
+        (&[&len(0xFFFF_FFFF)], 2),
+        (&[&over], 3),
+        (&[&over, &sha], 3),
+        (&[&over, upgrade], 3),
+        (&[&above, image], 3),
+        (&[&above, &short], 2),
+        (&[&above, upgrade], 2),
+        (&[&above, &sha], 2),
+        (&[&len(2), &sha], 3),
+        (&[&len(9), &sha], 6),
+        (&[&len(9), &sha, image], 3),
+        (&[&len(9), &sha, upgrade], 6),
+        (&[&len(10), &sha, upgrade], 8),
+        (&[&len(9), &short, upgrade], 3),
+    ];
+    for (pairs, answer) in uploads {
+        let count = 0xA2 + pairs.len() as u8;
+        let payload = [&[count][..], b"\x64data\x43\x07\x07\x07\x63off\x00", &pairs.concat()].concat();
+        harness.expect(on_slot(open, tag, packet(1, 1, &payload)), |outcome| {
+            map(outcome) == rc(answer) && left_alone(outcome, open, tag)
+        });
+    }
+    // Above offset 0 neither length nor tag counts, but for what is over 32 bits.
+    for (pairs, answer) in [(&above, success(5).to_vec()), (&over, rc(3).to_vec())] {
+        let payload = [b"\xA4\x64data\x41\x07\x63off\x04", &sha[..], pairs].concat();
+        harness.expect(on_slot(open, tag, packet(1, 1, &payload)), |outcome| map(outcome) == answer);
+    }
+}
+
 /// The published vectors of CRC-16/XMODEM, RFC 4648 and RFC 8949, as far as calls can show them.
 fn vectors(harness: &mut Harness) {
     harness.kind("published vectors");
@@ -341,7 +460,7 @@ fn vectors(harness: &mut Harness) {
     harness.expect(send_frame(b"123456789".to_vec(), 0, vec![0; 127], [5, 5]), |outcome| {
         outcome.returned == 0 && outcome.buffers[1][..line.len()] == line
     });
-    harness.expect(take_line(IDLE, line.clone(), vec![0; 9], 5), |outcome| {
+    harness.expect(take_line(IDLE, line.clone(), vec![0; 9], [5, 6]), |outcome| {
         outcome.returned == 0 && outcome.buffers[1] == b"123456789"
     });
     // Leading zero bytes leave the register at 0, so the one-byte vectors end bodies of eight bytes.
@@ -362,30 +481,10 @@ fn vectors(harness: &mut Harness) {
     ];
     for (text, bytes) in texts {
         let line = [b"\x04\x14", text, b"\x0A"].concat();
-        harness.expect(take_line([1, 20, 0, 0], line, vec![0; 18], 5), |outcome| {
+        harness.expect(take_line([1, 20, 0, 0], line, vec![0; 18], [5, 6]), |outcome| {
             outcome.returned == 0
-                && outcome.words == [1, 20, bytes.len() as u32, 0, 0]
+                && outcome.words == [1, 20, bytes.len() as u32, 0, 0, 6]
                 && outcome.buffers[1][..bytes.len()] == *bytes
-        });
-    }
-    let refused: [&[u8]; 12] = [
-        b"",
-        b"Zh==",
-        b"Zm9=",
-        b"A===",
-        b"====",
-        b"AA==AAAA",
-        b"AA=A",
-        b"AAAA=",
-        b"AA-A",
-        b"AA_A",
-        b"AAA",
-        b"AA\nA",
-    ];
-    for text in refused {
-        let line = [b"\x04\x14", text, b"\x0A"].concat();
-        harness.expect(take_line([1, 20, 0, 0], line, vec![0; 18], 5), |outcome| {
-            outcome.returned == 4 && outcome.words == [0, 0, 0, 0, 5]
         });
     }
     let numbers: [(&[u8], Option<u32>); 16] = [
@@ -481,7 +580,7 @@ fn transcript(harness: &mut Harness, file: Vec<u8>, text: Option<&str>) {
     let records = file.len() / 3;
     let mut left = Vec::new();
     let mut count = 0;
-    harness.expect(replay(file, bench(), vec![77; 3 * records], 78), |outcome| {
+    harness.expect(replay(file, bench(), vec![77; ANSWER * records], 78), |outcome| {
         left = outcome.words.clone();
         count = outcome.sizes[0];
         outcome.returned == if text.is_some() { 0 } else { 12 }
@@ -515,6 +614,10 @@ fn recordings(harness: &mut Harness) {
     transcript(harness, recording(&[&begun]), Some("0 0 0\nend 3\n"));
     transcript(harness, recording(&[&begun, &reset]), Some("0 0 0\n1 0 0\nend none\n"));
     transcript(harness, recording(&[&no_request, b"boot\n"]), Some("0 10 -\n1 3 -\nend none\n"));
+    transcript(harness, recording(&[b"\x06\x09A-\n", &begun]), Some("0 4 -\n1 0 0\nend 3\n"));
+    let tagged = [5, 4, 4097].map(|length| framed(&upload(&[1, 2, 3], 0, length, &[8; 32])));
+    let lines: Vec<&[u8]> = tagged.iter().map(|line| &line[..]).collect();
+    transcript(harness, recording(&lines), Some("0 0 0\n1 0 6\n2 0 2\nend 3\n"));
     let parts: [&[u8]; 2] = [b"\x06\x09AAoA\n", b"\x04\x14AAAAAAAAAAAA\n"];
     transcript(harness, recording(&parts), Some("0 0 -\n1 0 3\nend none\n"));
     // Each byte of the trailer one more or less makes it no recording.
@@ -540,9 +643,9 @@ fn recordings(harness: &mut Harness) {
             outcome.returned == 12 && outcome.sizes == [77; 3]
         });
     }
-    let third = u64::MAX / 3;
-    for count in [3, third, third + 1, third + 2, 2 * third + 1, 1 << 63, u64::MAX] {
-        harness.expect(write_transcript(vec![1; 8], count, IDLE, vec![0xEE; 99], 77), |outcome| {
+    let quarter = u64::MAX / 4;
+    for count in [3, quarter, quarter + 1, quarter + 2, 1 << 63, (1 << 63) + 1, u64::MAX] {
+        harness.expect(write_transcript(vec![1; 11], count, IDLE, vec![0xEE; 99], 77), |outcome| {
             outcome.returned == 12 && outcome.sizes == [77] && outcome.buffers[0] == [0xEE; 99]
         });
     }
@@ -554,6 +657,8 @@ pub fn run(harness: &mut Harness) {
     errors(harness);
     collector(harness);
     images(harness);
+    places(harness);
+    orders(harness);
     recordings(harness);
     vectors(harness);
     harness.kind("next sequence, every number");

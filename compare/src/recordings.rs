@@ -3,8 +3,9 @@
 use crate::call::{first_record, handle, next_record, replay, take_line, write_transcript, Bench};
 use crate::harness::Harness;
 use crate::lines;
-use crate::requests::{request, Device};
+use crate::requests::{request, start, Device};
 use crate::rng::Rng;
+use second::replay::ANSWER;
 use second::{crc, port, sender};
 
 /// The first byte of a record with a line to the controller, and of one with a line from it.
@@ -80,6 +81,21 @@ fn small_upload(rng: &mut Rng) -> Vec<Vec<u8>> {
     packets
 }
 
+/// The packets of an upload that is begun, mostly with a tag, and then of others at offset 0.
+fn other_starts(rng: &mut Rng) -> Vec<Vec<u8>> {
+    let length = rng.range(1, 30) as u32;
+    let place = if rng.once_in(4) { length } else { rng.range(1, length as usize) as u32 };
+    let tag = rng.tag();
+    let tagged = !rng.once_in(6);
+    let data = rng.bytes(place as usize);
+    let begun = upload(&data, 0, length as usize, if tagged { &tag } else { &[] });
+    let session = [1, length, place, tagged as u32];
+    let device = Device { layout: LAYOUT, memory: vec![], session, tag };
+    let mut packets = vec![begun];
+    packets.extend((0..rng.range(3, 6)).map(|_| start(rng, &device)));
+    packets
+}
+
 /// A request for the session as it stands, mostly a short one.
 fn any_request(rng: &mut Rng, device: &Device) -> Vec<u8> {
     let mut packet = request(rng, device);
@@ -110,7 +126,7 @@ fn faulty(rng: &mut Rng) -> Vec<Vec<u8>> {
             line
         }
         1 => lines::noise(rng),
-        2 => [&rng.pick(&[[6, 9], [4, 20]])[..], &lines::bad_text(rng), b"\n"].concat(),
+        2 => lines::with_bad_text(rng),
         3 => sender::line([4, 20], &body),
         4 if rng.once_in(3) => sender::line([6, 9], &body[..1]),
         4 => whole(rng.below(10) as u16, &body, sum),
@@ -120,12 +136,14 @@ fn faulty(rng: &mut Rng) -> Vec<Vec<u8>> {
         _ => whole(10, &[rng.pick(&[1, 3, 4, 5, 255]), 0, 0, 0, 0, 0, 0, 0], 0),
     };
     if line.len() > 20 && rng.once_in(4) {
-        let mut both = lines::sent(&[0; 90]);
-        both.truncate(1);
-        both.push(line);
-        return both;
+        return vec![begun(), line];
     }
     vec![line]
+}
+
+/// A line that begins a packet.
+fn begun() -> Vec<u8> {
+    lines::sent(&[0; 90]).remove(0)
 }
 
 /// The packet of eight bytes of an op that is no request's, in its line.
@@ -384,9 +402,9 @@ pub fn replays(harness: &mut Harness, rng: &mut Rng) {
         Ok((_, records)) => {
             let to =
                 records.iter().filter(|record| record.way == second::recording::Way::ToController).count();
-            (3 * records.len(), 3 * to)
+            (ANSWER * records.len(), ANSWER * to)
         }
-        Err(_) => (9, 9),
+        Err(_) => (12, 12),
     };
     let numbers = match rng.below(12) {
         0 => needed.saturating_sub(1),
@@ -412,23 +430,52 @@ pub fn replays(harness: &mut Harness, rng: &mut Rng) {
     }
 }
 
+/// The replay of records on a bench with anything on it, with room for the answers.
+fn replay_of(harness: &mut Harness, rng: &mut Rng, records: &[Record]) {
+    let file = recording(rng, records);
+    let answers = (0..ANSWER * records.len()).map(|_| rng.word()).collect();
+    harness.check(replay(file, bench(rng), answers, rng.next() as usize));
+}
+
+/// The replay of many lines with bad texts, some while a packet is open.
+pub fn texts(harness: &mut Harness, rng: &mut Rng) {
+    harness.kind("recordings: bad texts");
+    let mut records = Vec::new();
+    for _ in 0..rng.range(8, 16) {
+        if rng.once_in(3) {
+            records.push((TO, begun()));
+        }
+        records.push((TO, lines::with_bad_text(rng)));
+    }
+    replay_of(harness, rng, &records);
+}
+
+/// The replay of uploads that are begun, each with others at offset 0 behind it.
+pub fn starts(harness: &mut Harness, rng: &mut Rng) {
+    harness.kind("recordings: uploads at offset 0, good or not in each field");
+    let packets: Vec<Vec<u8>> = (0..rng.range(3, 5)).flat_map(|_| other_starts(rng)).collect();
+    let lines = packets.iter().filter(|packet| packet.len() >= 8).flat_map(|packet| lines::sent(packet));
+    let records: Vec<Record> = lines.map(|line| (TO, line)).collect();
+    replay_of(harness, rng, &records);
+}
+
 /// The lines of a recording by its replay, and one by one by hand: both leave the same.
 pub fn by_hand(harness: &mut Harness, rng: &mut Rng) {
     harness.kind("recordings: replayed, and fed by hand");
     let records = records(rng);
     let file = recording(rng, &records);
     let begun = bench(rng);
-    let replayed = harness.check(replay(file, begun.clone(), vec![7; 3 * records.len()], 7));
+    let replayed = harness.check(replay(file, begun.clone(), vec![7; ANSWER * records.len()], 7));
     let (mut memory, mut packet, mut reply) = (vec![255; 8192], begun.packet, begun.reply);
     let (mut session, mut tag, mut reader) = ([0; 4], [0; 32], [0; 4]);
     let mut answers: Vec<u32> = Vec::new();
     for (_, line) in records.iter().filter(|(way, _)| *way == TO) {
-        let taken = harness.check(take_line(reader, line.clone(), packet, 0));
+        let taken = harness.check(take_line(reader, line.clone(), packet, [0, 0]));
         reader = taken.words[..4].try_into().unwrap();
         packet = taken.buffers.into_iter().nth(1).unwrap();
         let length = taken.words[4] as usize;
         if taken.returned != 0 || length == 0 {
-            answers.extend([taken.returned, 0, 0]);
+            answers.extend([taken.returned, 0, 0, taken.words[5]]);
             continue;
         }
         let call = handle(LAYOUT, memory, session, tag, packet[..length].to_vec(), reply, [0; 2]);
@@ -439,10 +486,10 @@ pub fn by_hand(harness: &mut Harness, rng: &mut Rng) {
         memory = handled.buffers.swap_remove(0);
         let mut read = [0; 12];
         port::read_reply(&reply[..handled.words[4] as usize], &mut read);
-        answers.extend(if handled.returned == 0 { [0, 1, read[6]] } else { [handled.returned, 0, 0] });
+        answers.extend(if handled.returned == 0 { [0, 1, read[6], 0] } else { [handled.returned, 0, 0, 0] });
     }
-    assert_eq!(replayed.sizes, [answers.len() / 3]);
-    answers.resize(3 * records.len(), 7);
+    assert_eq!(replayed.sizes, [answers.len() / ANSWER]);
+    answers.resize(ANSWER * records.len(), 7);
     assert!(replayed.words == [&session[..], &reader, &answers].concat(), "session, reader and answers");
     let buffers = [memory, tag.to_vec(), packet, reply];
     assert!(replayed.buffers[1..] == buffers, "memory, tag and buffers");
@@ -463,10 +510,10 @@ pub fn transcripts(harness: &mut Harness, rng: &mut Rng) {
     harness.kind("recordings: transcripts of any numbers");
     let count = if rng.once_in(5) { rng.range(98, 105) } else { rng.below(15) };
     let answer = |rng: &mut Rng| match rng.below(4) {
-        0 => [digits(rng), 0, 0],
-        1 => [0, 1, digits(rng)],
-        2 => [digits(rng), rng.pick(&[0, 0, 1, 2, 256, u32::MAX]), digits(rng)],
-        _ => [digits(rng), digits(rng), digits(rng)],
+        0 => [digits(rng), 0, 0, digits(rng)],
+        1 => [0, 1, digits(rng), 0],
+        2 => [digits(rng), rng.pick(&[0, 0, 1, 2, 256, u32::MAX]), digits(rng), digits(rng)],
+        _ => [digits(rng), digits(rng), digits(rng), digits(rng)],
     };
     let mut answers: Vec<u32> = (0..count).flat_map(|_| answer(rng)).collect();
     let session = match rng.below(3) {
@@ -477,15 +524,15 @@ pub fn transcripts(harness: &mut Harness, rng: &mut Rng) {
     let mut out = vec![0; 5000];
     let mut needed = 0;
     assert_eq!(port::write_transcript(&answers, count, &session, &mut out, &mut needed), 0);
-    let third = u64::MAX / 3;
+    let quarter = u64::MAX / 4;
     let mut asked = count as u64;
     match rng.below(12) {
-        0 if count > 0 => answers.truncate(3 * count - 1),
-        1 if count > 0 => answers.truncate(rng.below(3 * count)),
+        0 if count > 0 => answers.truncate(ANSWER * count - 1),
+        1 if count > 0 => answers.truncate(rng.below(ANSWER * count)),
         2 => asked += rng.range(1, 3) as u64,
-        // Three times this is just over 64 bits, or at their end.
-        3 => asked = third.wrapping_add(rng.below(count + 3) as u64),
-        4 => asked = 2 * third + 1 + rng.below(count + 2) as u64,
+        // Four times this is just over 64 bits, or at their end.
+        3 => asked = quarter + rng.below(count + 3) as u64,
+        4 => asked = rng.pick(&[2, 3]) * (quarter + 1) + rng.below(count + 2) as u64,
         5 => asked = rng.pick(&[1 << 63, (1 << 63) + count as u64, u64::MAX, u64::MAX - 1, 1 << 32]),
         6 => asked = rng.below(count + 1) as u64,
         7 | 8 => {

@@ -165,6 +165,52 @@ fn upload(rng: &mut Rng, device: &Device) -> Vec<Pair> {
     pairs
 }
 
+/// An upload at offset 0, now and then at the session's place, for a controller as it stands. Length, tag, image, data and
+/// wish to upgrade are each good or not by themselves, so that two reasons to refuse it often meet.
+pub fn start(rng: &mut Rng, device: &Device) -> Vec<u8> {
+    let (size, length) = (device.size(), device.session[1] as u64);
+    let off = if rng.once_in(6) { device.session[2] as u64 } else { 0 };
+    let len = match rng.below(23) {
+        0..=2 => size + 1,
+        3 => size + rng.range(2, 40) as u64,
+        4 | 5 => 0xFFFF_FFFF,
+        6 => 1 << 32,
+        7 => (1 << 32) + rng.pick(&[1, length, size]),
+        8..=10 => (length + 1).min(size),
+        11..=13 => length.saturating_sub(1).max(1),
+        14..=16 => rng.range(1, 12).min(size as usize) as u64,
+        17 => rng.pick(&[0, size]),
+        _ => length,
+    };
+    let most = len.clamp(1, 9) as usize;
+    let data = match rng.below(5) {
+        0 if len < 60 => len as usize + rng.range(1, 3),
+        1 if len == size + 1 && size < 60 => size as usize + 1,
+        _ => rng.range(1, most),
+    };
+    let mut pairs: Vec<Pair> = vec![
+        (b"data".to_vec(), Item::Bytes(rng.bytes(data))),
+        (b"len".to_vec(), Item::Unsigned(len)),
+        (b"off".to_vec(), Item::Unsigned(off)),
+    ];
+    let sha = match rng.below(13) {
+        0..=6 => Some(device.tag.to_vec()),
+        7 | 8 => Some(rng.tag().to_vec()),
+        9 | 10 => Some(vec![9; rng.pick(&[0, 31, 33])]),
+        _ => None,
+    };
+    pairs.extend(sha.map(|sha| (b"sha".to_vec(), Item::Bytes(sha))));
+    if rng.once_in(4) {
+        let image = rng.pick(&[0, 1, 1, 1 << 32]);
+        pairs.push((b"image".to_vec(), Item::Unsigned(image)));
+    }
+    if rng.once_in(2) {
+        pairs.push((b"upgrade".to_vec(), Item::Raw(vec![rng.pick(&[0xF4, 0xF5, 0xF5])])));
+    }
+    let payload = payload(rng, pairs, false);
+    packet(rng, 2, 1, 1, &payload)
+}
+
 /// A request for a controller as it stands.
 pub fn request(rng: &mut Rng, device: &Device) -> Vec<u8> {
     let spoil = rng.once_in(4);
@@ -236,6 +282,25 @@ pub fn single(harness: &mut Harness, rng: &mut Rng) {
     }
     let room = room(rng);
     device.ask(harness, rng, packet, room);
+}
+
+/// One upload at offset 0, mostly while a session is open.
+pub fn starts(harness: &mut Harness, rng: &mut Rng) {
+    harness.kind("requests: uploads at offset 0, good or not in each field");
+    let mut device = Device::new(rng);
+    if rng.once_in(8) {
+        device.close(rng);
+    } else {
+        device.open(rng);
+        // Mostly shorter than the slot, and with a tag.
+        let length = rng.range(1, device.size() as usize) as u32;
+        let place = if rng.once_in(4) { length } else { rng.range(1, length as usize) as u32 };
+        device.session[1..3].copy_from_slice(&[length, place]);
+        device.session[3] = !rng.once_in(4) as u32;
+        device.tag = rng.tag();
+    }
+    let packet = start(rng, &device);
+    device.ask(harness, rng, packet, 32);
 }
 
 /// A history of requests on one memory: chunks, repeats, resumes, restarts, erases, resets, damage.

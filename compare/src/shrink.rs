@@ -3,6 +3,7 @@
 use crate::call::{layout_of, Call, Kind};
 use second::cbor::{self, Value};
 use second::recording::{self, Record};
+use second::replay::ANSWER;
 use second::{base64, crc, sender};
 use std::time::{Duration, Instant};
 
@@ -341,9 +342,9 @@ fn fewer_answers(call: &Call) -> Vec<Call> {
     let others = if call.kind == Kind::Replay { 8 } else { 4 };
     let numbers = call.words.len() - others;
     let mut list = Vec::new();
-    if call.kind == Kind::WriteTranscript && numbers >= 3 && call.numbers[0] > 0 {
+    if call.kind == Kind::WriteTranscript && numbers >= ANSWER && call.numbers[0] > 0 {
         let mut fewer = call.clone();
-        fewer.words.drain(others..others + 3);
+        fewer.words.drain(others..others + ANSWER);
         fewer.numbers[0] -= 1;
         list.push(fewer);
     }
@@ -352,7 +353,7 @@ fn fewer_answers(call: &Call) -> Vec<Call> {
         fewer.words.truncate(others + length as usize);
         list.push(fewer.clone());
         if call.kind == Kind::WriteTranscript {
-            fewer.numbers[0] = call.numbers[0].saturating_sub((numbers as u64 - length) / 3);
+            fewer.numbers[0] = call.numbers[0].saturating_sub((numbers as u64 - length) / ANSWER as u64);
             list.push(fewer);
         }
     }

@@ -4,6 +4,7 @@ use crate::call::*;
 use crate::harness::Harness;
 use crate::lumps::through;
 use crate::rng::Rng;
+use second::replay::ANSWER;
 use second::sender;
 
 /// Every count and next byte, every place of an 0A in record and lump, every length of a lump, every cut of a line about
@@ -66,7 +67,7 @@ fn lines(harness: &mut Harness, rng: &mut Rng) {
                 if let Some(byte) = line.last_mut() {
                     *byte = last;
                 }
-                harness.check(take_line(open, line, rng.bytes(210), rng.word()));
+                harness.check(take_line(open, line, rng.bytes(210), [rng.word(), rng.word()]));
             }
         }
     }
@@ -76,7 +77,7 @@ fn lines(harness: &mut Harness, rng: &mut Rng) {
                 for character in 0..=255 {
                     let mut line = [&marker, text, b"\n"].concat();
                     line[2 + at] = character;
-                    harness.check(take_line(open, line, rng.bytes(200), rng.word()));
+                    harness.check(take_line(open, line, rng.bytes(200), [rng.word(), rng.word()]));
                 }
             }
         }
@@ -88,16 +89,16 @@ fn lines(harness: &mut Harness, rng: &mut Rng) {
             line
         };
         for at in [0, 1, 6] {
-            harness.check(take_line(open, line(at), rng.bytes(200), rng.word()));
+            harness.check(take_line(open, line(at), rng.bytes(200), [rng.word(), rng.word()]));
         }
     }
     let alphabet = b"ABCDEFGHIJKLMNOPQRSTUVWXYZabcdefghijklmnopqrstuvwxyz0123456789+/";
     for first in alphabet {
         for second in alphabet {
             let line = [b"\x04\x14AAAA", &[*first, *second][..], b"==\n"].concat();
-            harness.check(take_line(open, line, rng.bytes(198), rng.word()));
+            harness.check(take_line(open, line, rng.bytes(198), [rng.word(), rng.word()]));
             let line = [b"\x04\x14A", &[*first, *second][..], b"=\n"].concat();
-            harness.check(take_line(open, line, rng.bytes(198), rng.word()));
+            harness.check(take_line(open, line, rng.bytes(198), [rng.word(), rng.word()]));
         }
     }
     // Every total in an initial frame, for buffers at the edge of its body.
@@ -110,7 +111,7 @@ fn lines(harness: &mut Harness, rng: &mut Rng) {
             for room in [0, 1, 2, 3] {
                 let room = (total as usize).saturating_sub(room);
                 let line = sender::line([6, 9], &bytes);
-                harness.check(take_line([1, 20, 19, 3], line, vec![0xEE; room], rng.word()));
+                harness.check(take_line([1, 20, 19, 3], line, vec![0xEE; room], [rng.word(), rng.word()]));
             }
         }
     }
@@ -120,9 +121,53 @@ fn lines(harness: &mut Harness, rng: &mut Rng) {
             for raw in 1..=18 {
                 for room in [total as usize - 3, total as usize - 2, 30] {
                     let line = sender::line([4, 20], &vec![0; raw]);
-                    harness.check(take_line([1, total, come, 0], line, vec![0; room], rng.word()));
+                    harness.check(take_line(
+                        [1, total, come, 0],
+                        line,
+                        vec![0; room],
+                        [rng.word(), rng.word()],
+                    ));
                 }
             }
+        }
+    }
+}
+
+/// Every short text of a few characters, alone and behind a good group; a few characters in every place of a full line, and
+/// every length of a line that ends in a few ways.
+fn texts(harness: &mut Harness, rng: &mut Rng) {
+    harness.kind("lines: every short text, and every place of a full line");
+    let mut take = |text: &[u8]| {
+        let reader = if rng.once_in(2) { [1, 200, 20, 0] } else { [0; 4] };
+        let line = [&rng.pick(&[[6, 9], [4, 20]])[..], text, b"\n"].concat();
+        harness.check(take_line(reader, line, rng.bytes(200), [rng.word(), rng.word()]));
+    };
+    let mut texts: Vec<Vec<u8>> = vec![vec![]];
+    let mut begun = 0;
+    for _ in 0..5 {
+        let next = |text: &Vec<u8>| b"AQB=-\n".map(|byte| [&text[..], &[byte]].concat());
+        let longer: Vec<Vec<u8>> = texts[begun..].iter().flat_map(next).collect();
+        begun = texts.len();
+        texts.extend(longer);
+    }
+    for text in &texts {
+        take(text);
+        if text.len() < 5 {
+            take(&[b"AGQA", &text[..]].concat());
+        }
+    }
+    for at in 0..124 {
+        for byte in *b"-=\n\r\0\xFFB" {
+            let mut text = [b'A'; 124];
+            text[at] = byte;
+            take(&text);
+            text[123] = b'=';
+            take(&text);
+        }
+    }
+    for length in 0..=125 {
+        for ending in [&b""[..], b"=", b"==", b"B=", b"B==", b"-", b"\r"] {
+            take(&[&vec![b'A'; length][..], ending].concat());
         }
     }
 }
@@ -140,7 +185,7 @@ fn sends(harness: &mut Harness, rng: &mut Rng) {
             let sent = harness.check(send_frame(body.clone(), k as u64, out, [rng.word(), rng.word()]));
             if sent.returned == 0 {
                 let line = sent.buffers[1][..sent.words[0] as usize].to_vec();
-                let taken = harness.check(take_line(reader, line, packet, rng.word()));
+                let taken = harness.check(take_line(reader, line, packet, [rng.word(), rng.word()]));
                 reader = taken.words[..4].try_into().unwrap();
                 packet = taken.buffers.into_iter().nth(1).unwrap();
             }
@@ -158,7 +203,7 @@ fn sends(harness: &mut Harness, rng: &mut Rng) {
                 break;
             }
             let line = sent.buffers[1][..sent.words[0] as usize].to_vec();
-            let taken = harness.check(take_line(reader, line, packet, 5));
+            let taken = harness.check(take_line(reader, line, packet, [5, 6]));
             reader = taken.words[..4].try_into().unwrap();
             packet = taken.buffers.into_iter().nth(1).unwrap();
         }
@@ -368,6 +413,38 @@ fn sessions(harness: &mut Harness, rng: &mut Rng) {
     }
 }
 
+/// Every upload at offset 0 that has each of its fields at an edge, for each session.
+fn starts(harness: &mut Harness, rng: &mut Rng) {
+    harness.kind("uploads: every edge of each field at offset 0");
+    let tag = [9; 32];
+    // A slot of 20 bytes, and sessions of 10.
+    let lengths = [0, 1, 2, 9, 10, 11, 20, 21, 0xFFFF_FFFF, 0x1_0000_0000, 0x1_0000_000A];
+    let sha = |length: u8, byte: u8| [&b"\x63sha\x58"[..], &[length], &vec![byte; length as usize]].concat();
+    let shas = [vec![], sha(32, 9), sha(32, 8), sha(31, 9)];
+    let images: [&[u8]; 3] = [b"", b"\x65image\x00", b"\x65image\x01"];
+    let upgrades: [&[u8]; 3] = [b"", b"\x67upgrade\xF4", b"\x67upgrade\xF5"];
+    for session in [[0; 4], [1, 10, 4, 0], [1, 10, 4, 1], [1, 10, 10, 1]] {
+        for length in lengths.map(Some).into_iter().chain([None]) {
+            let len =
+                length.map_or(vec![], |length: u64| [&b"\x63len\x1B"[..], &length.to_be_bytes()].concat());
+            for (sha, image, upgrade) in shas.iter().flat_map(|sha| {
+                images.into_iter().flat_map(move |image| upgrades.map(|upgrade| (sha, image, upgrade)))
+            }) {
+                for data in [1, 2] {
+                    let pairs = [&len[..], sha, image, upgrade];
+                    let count = 0xA2 + pairs.iter().filter(|pair| !pair.is_empty()).count() as u8;
+                    let data = [&[0x40 + data][..], &vec![7; data as usize]].concat();
+                    let payload =
+                        [&[count][..], b"\x64data", &data, b"\x63off\x00", &pairs.concat()].concat();
+                    let request = packet(2, 1, 1, &payload);
+                    let (memory, reply) = (rng.bytes(40), rng.bytes(32));
+                    harness.check(handle([0, 5, 5, 20], memory, session, tag, request, reply, [5, 5]));
+                }
+            }
+        }
+    }
+}
+
 /// A state read of two regions that touch, slot 0 first, with a reply buffer of this length.
 fn list(harness: &mut Harness, rng: &mut Rng, slot_0: &[u8], upload: &[u8], room: usize) {
     let (size_0, size) = (slot_0.len() as u64, upload.len() as u64);
@@ -510,8 +587,8 @@ fn files(harness: &mut Harness, rng: &mut Rng) {
 /// Every room for answers and every output of a small transcript; every number of digits.
 fn transcripts(harness: &mut Harness, rng: &mut Rng) {
     harness.kind("recordings: every room of a transcript, every number of digits");
-    for numbers in 0..=13 {
-        for count in (0..=5).chain([u64::MAX / 3, u64::MAX / 3 + 1, u64::MAX]) {
+    for numbers in 0..=17 {
+        for count in (0..=5).chain([u64::MAX / 4, u64::MAX / 4 + 1, u64::MAX]) {
             for room in 0..=60 {
                 let answers: Vec<u32> = (0..numbers).map(|number| number % 3).collect();
                 let (session, out) = ([(room & 1) as u32, 0, 7, 0], rng.bytes(room));
@@ -521,7 +598,7 @@ fn transcripts(harness: &mut Harness, rng: &mut Rng) {
     }
     let powers = (0..10).map(|power| 10u32.pow(power)).chain([u32::MAX]);
     for number in powers.flat_map(|power| [power - 1, power, power.wrapping_add(1)]) {
-        for answer in [[number, 0, 0], [0, 1, number], [number, number, number]] {
+        for answer in [[number, 0, 0, 0], [0, 1, number, 0], [0, 0, 0, number], [number; 4]] {
             for open in [0, 1, number] {
                 let (session, out) = ([open, number, number, number], rng.bytes(60));
                 harness.check(write_transcript(answer.to_vec(), 1, session, out, rng.next() as usize));
@@ -529,7 +606,7 @@ fn transcripts(harness: &mut Harness, rng: &mut Rng) {
         }
     }
     for count in [9, 10, 11, 99, 100, 101, 999, 1000, 1001, 9_999, 10_001, 100_001] {
-        let (answers, out) = (vec![0; 3 * count], vec![7; 12 * count + 20]);
+        let (answers, out) = (vec![0; ANSWER * count], vec![7; 12 * count + 20]);
         harness.check(write_transcript(answers, count as u64, [0; 4], out, rng.next() as usize));
     }
 }
@@ -538,9 +615,11 @@ fn transcripts(harness: &mut Harness, rng: &mut Rng) {
 pub fn run(harness: &mut Harness, rng: &mut Rng) {
     lumps(harness, rng);
     lines(harness, rng);
+    texts(harness, rng);
     sends(harness, rng);
     maps(harness, rng);
     sessions(harness, rng);
+    starts(harness, rng);
     images(harness, rng);
     writers(harness, rng);
     most(harness);

@@ -47,9 +47,10 @@ pub fn single(harness: &mut Harness, rng: &mut Rng) {
         }
         3 => {
             harness.kind("writers: reset, erase, next sequence");
-            let kind = rng.pick(&[Kind::WriteReset, Kind::WriteErase]);
-            let room = room(rng, 9);
-            harness.check(write_plain(kind, sequence, rng.bytes(room), packet_len));
+            for kind in [Kind::WriteReset, Kind::WriteErase, Kind::WriteReset, Kind::WriteErase] {
+                let room = room(rng, 9);
+                harness.check(write_plain(kind, sequence, rng.bytes(room), packet_len));
+            }
             harness.check(next_sequence(sequence));
         }
         4 => {

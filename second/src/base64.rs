@@ -42,6 +42,22 @@ pub fn decode(text: &[u8]) -> Option<Vec<u8>> {
     Some(bytes)
 }
 
+/// Says whether some well-formed text begins with this one: whether it becomes one with an ending. Where it has no `=` yet
+/// any characters do for the last group, so `A`; behind one `=` of two, the second.
+fn begins_a_text(begin: &[u8]) -> bool {
+    let endings: [&[u8]; 5] = [b"", b"A", b"AA", b"AAA", b"="];
+    let mut whole = endings.iter().filter(|ending| (begin.len() + ending.len()) % 4 == 0);
+    whole.any(|ending| decode(&[begin, ending].concat()).is_some())
+}
+
+/// The first place of a text that is not well formed at which no well-formed text can begin with what stands up to there,
+/// that character too; the text's length where it is only too short.
+pub fn fault(text: &[u8]) -> usize {
+    // What no text begins with, no text begins with when it is longer: so the places can be searched by halves.
+    let lengths: Vec<usize> = (1..=text.len()).collect();
+    lengths.partition_point(|length| begins_a_text(&text[..*length]))
+}
+
 /// The text of some bytes, with `=` where the last group is short.
 pub fn encode(bytes: &[u8]) -> Vec<u8> {
     let mut text = Vec::with_capacity((bytes.len() + 2) / 3 * 4);

@@ -59,7 +59,7 @@ fn echo(text: &[u8]) -> Vec<u8> {
 }
 
 /// The fields of an upload request.
-fn upload_of<'a>(map: &Map, payload: &'a [u8]) -> Result<Upload<'a>, Malformed> {
+pub fn upload_of<'a>(map: &Map, payload: &'a [u8]) -> Result<Upload<'a>, Malformed> {
     Ok(Upload {
         off: map.unsigned("off")?,
         data: map.bytes("data")?.map(|place| &payload[place]),

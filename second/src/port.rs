@@ -1,5 +1,5 @@
 //! The calls with the C header's parameters: each returns 0 or the number of a refusal, and fills its out-parameters at 0
-//! only, but for [`collect`], which fills them at 2 too.
+//! only, but for [`collect`], which fills them at 2 too, and [`take_line`], which fills the place at 4 alone.
 
 use crate::collector::{self, Step};
 use crate::reader::{self, Taken};
@@ -41,9 +41,19 @@ pub fn collect(
     }
 }
 
-/// Takes one line; `body` is 0 where the packet wants more, else the body's length.
-pub fn take_line(record: &mut [u32; 4], line: &[u8], packet: &mut [u8], body: &mut u32) -> u32 {
-    number(reader::take_line(record, line, packet), |taken| {
+/// Takes one line; `body` is 0 where the packet wants more, else the body's length; `place` is that of a bad text.
+pub fn take_line(
+    record: &mut [u32; 4],
+    line: &[u8],
+    packet: &mut [u8],
+    body: &mut u32,
+    place: &mut u32,
+) -> u32 {
+    let answer = reader::take_line(record, line, packet);
+    if let Some(bad) = answer.err().and_then(Refusal::place) {
+        *place = bad;
+    }
+    number(answer, |taken| {
         *body = match taken {
             Taken::More => 0,
             Taken::Complete(length) => length as u32,

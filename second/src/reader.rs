@@ -35,6 +35,9 @@ fn unfinished(record: &[u32; 4]) -> Option<Unfinished> {
     Some(Unfinished { total: total as usize, come: come as usize, first: first as u8 })
 }
 
+/// Where a line's text begins.
+const TEXT: usize = 2;
+
 /// The marker and the text of a line, or refusal 2 or 3.
 fn parts(line: &[u8]) -> Result<([u8; 2], &[u8]), Refusal> {
     if line.len() > LINE {
@@ -47,7 +50,7 @@ fn parts(line: &[u8]) -> Result<([u8; 2], &[u8]), Refusal> {
     if marker != INITIAL && marker != PARTIAL {
         return Err(Refusal::NotALine);
     }
-    Ok((marker, &line[2..line.len() - 1]))
+    Ok((marker, &line[TEXT..line.len() - 1]))
 }
 
 /// The packet that a frame goes on with or begins, and the frame's body and CRC bytes; or refusal 5 or 6.
@@ -104,7 +107,7 @@ pub fn take_line(record: &mut [u32; 4], line: &[u8], packet: &mut [u8]) -> Resul
         Some(raw) => raw,
         None => {
             *record = [0; 4];
-            return Err(Refusal::BadText);
+            return Err(Refusal::BadText { place: TEXT + base64::fault(text) });
         }
     };
     let answer = begin(record, marker, &raw).and_then(|(open, bytes)| add(open, bytes, packet));

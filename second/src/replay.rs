@@ -48,36 +48,39 @@ impl Bench<'_> {
     }
 }
 
-/// An answer as three numbers: the refusal or 0, 1 where there is a reply, and its rc.
-fn numbers(answer: Result<Option<u32>, Refusal>) -> [u32; 3] {
+/// The numbers of an answer.
+pub const ANSWER: usize = 4;
+
+/// An answer as numbers: the refusal or 0, 1 where there is a reply, its rc, and the place of a bad text.
+fn numbers(answer: Result<Option<u32>, Refusal>) -> [u32; ANSWER] {
     match answer {
-        Ok(Some(rc)) => [0, 1, rc],
-        Ok(None) => [0, 0, 0],
-        Err(refusal) => [refusal.number(), 0, 0],
+        Ok(Some(rc)) => [0, 1, rc, 0],
+        Ok(None) => [0; ANSWER],
+        Err(refusal) => [refusal.number(), 0, 0, refusal.place().unwrap_or(0)],
     }
 }
 
-/// Replays a recording; gives the number of its lines to the controller, whose answers stand in threes. Refuses 12 where
-/// the file is no recording, or where there is no room for an answer to each record.
+/// Replays a recording; gives the number of its lines to the controller, whose answers stand one behind the other. Refuses
+/// 12 where the file is no recording, or where there is no room for an answer to each record.
 pub fn replay(file: &[u8], bench: &mut Bench, answers: &mut [u32]) -> Result<usize, Refusal> {
     let (_, records) = recording::read(file)?;
-    if answers.len() < 3 * records.len() {
+    if answers.len() < ANSWER * records.len() {
         return Err(Refusal::CannotSend);
     }
     bench.begin();
     let mut count = 0;
     for record in records.into_iter().filter(|record| record.way == Way::ToController) {
         let answer = bench.feed(&file[record.line]);
-        answers[3 * count..3 * count + 3].copy_from_slice(&numbers(answer));
+        answers[ANSWER * count..][..ANSWER].copy_from_slice(&numbers(answer));
         count += 1;
     }
     Ok(count)
 }
 
-/// The transcript of so many answers and of the session at the end.
+/// The transcript of so many answers, without their places, and of the session at the end.
 fn transcript(answers: &[u32], session: &[u32; 4]) -> String {
     let mut text = String::new();
-    for (number, answer) in answers.chunks_exact(3).enumerate() {
+    for (number, answer) in answers.chunks_exact(ANSWER).enumerate() {
         let rc = if answer[1] != 0 { answer[2].to_string() } else { "-".to_string() };
         text += &format!("{number} {} {rc}\n", answer[0]);
     }
@@ -94,7 +97,7 @@ pub fn write_transcript(
     out: &mut [u8],
 ) -> Result<usize, Refusal> {
     let answers =
-        count.checked_mul(3).and_then(|numbers| answers.get(..numbers)).ok_or(Refusal::CannotSend)?;
+        count.checked_mul(ANSWER).and_then(|numbers| answers.get(..numbers)).ok_or(Refusal::CannotSend)?;
     let text = transcript(answers, session);
     out.get_mut(..text.len()).ok_or(Refusal::CannotSend)?.copy_from_slice(text.as_bytes());
     Ok(text.len())

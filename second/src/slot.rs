@@ -126,8 +126,11 @@ fn start(upload: &Upload, data: &[u8], size: usize, session: Option<Session>) ->
         Some(len) => len,
         None => return Decision::Rc(3),
     };
-    if len == 0 || len > size as u64 {
+    if len == 0 {
         return Decision::Rc(3);
+    }
+    if len > size as u64 {
+        return Decision::Rc(2);
     }
     let tag: Option<[u8; 32]> = match upload.sha {
         None => None,
@@ -142,7 +145,7 @@ fn start(upload: &Upload, data: &[u8], size: usize, session: Option<Session>) ->
     // A request or session without a tag never matches.
     let same_tag = session.filter(|session| tag.is_some() && session.tag == tag);
     if same_tag.map_or(false, |session| session.length as u64 != len) {
-        return Decision::Rc(3);
+        return Decision::Rc(6);
     }
     if upload.upgrade == Some(true) {
         return Decision::Rc(8);

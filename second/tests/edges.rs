@@ -78,6 +78,14 @@ fn lines(body: &[u8]) -> Vec<Vec<u8>> {
     lines
 }
 
+/// Takes one line, and sees to it that a place is given at refusal 4 alone.
+fn take_line(record: &mut [u32; 4], line: &[u8], packet: &mut [u8], body: &mut u32) -> u32 {
+    let mut place = 999;
+    let returned = port::take_line(record, line, packet, body, &mut place);
+    assert_eq!(returned == 4, place != 999);
+    returned
+}
+
 /// A body of a length with bytes that differ.
 fn body(length: usize) -> Vec<u8> {
     (0..length).map(|i| (i * 7 + i / 251) as u8).collect()
@@ -91,7 +99,7 @@ fn eight_zero_bytes_in_one_line() {
     let mut record = IDLE;
     let mut buffer = [0xEE; 10];
     let mut length = 77;
-    assert_eq!(port::take_line(&mut record, expected, &mut buffer, &mut length), 0);
+    assert_eq!(take_line(&mut record, expected, &mut buffer, &mut length), 0);
     assert_eq!((length, record), (8, IDLE));
     assert_eq!(buffer, [0, 0, 0, 0, 0, 0, 0, 0, 0xEE, 0xEE]);
 }
@@ -169,7 +177,7 @@ fn every_line_back_through_the_reader() {
         let mut buffer = vec![0xEE; length];
         for (k, line) in lines.iter().enumerate() {
             let mut come = 99;
-            assert_eq!(port::take_line(&mut record, line, &mut buffer, &mut come), 0);
+            assert_eq!(take_line(&mut record, line, &mut buffer, &mut come), 0);
             let last = k + 1 == lines.len();
             assert_eq!(come as usize, if last { length } else { 0 });
             assert_eq!(record[0], !last as u32);
@@ -180,9 +188,10 @@ fn every_line_back_through_the_reader() {
 }
 
 #[test]
-fn len_of_the_slot_starts_and_one_more_is_rc_3() {
+fn len_of_the_slot_starts_and_one_more_is_rc_2() {
     let mut device = Device::new(2, 20, 30);
-    assert_eq!(device.numbers(&upload(&[1, 2], 0, 21, &[])), (3, None));
+    assert_eq!(device.numbers(&upload(&[1, 2], 0, 21, &[])), (2, None));
+    assert_eq!(device.numbers(&upload(&[1, 2], 0, 4_294_967_295, &[])), (2, None));
     assert_eq!((device.record, &device.memory), (IDLE, &vec![0; 30]));
     assert_eq!(device.numbers(&upload(&[1, 2], 0, 20, &[])), (0, Some(2)));
     assert_eq!(device.record, [1, 20, 2, 0]);
@@ -266,7 +275,7 @@ fn resume_needs_tag_and_length() {
     let (memory, record) = (device.memory.clone(), device.record);
     assert_eq!(record, [1, 12, 6, 1]);
     // The tag alone, with another length.
-    assert_eq!(device.numbers(&upload(&[1, 2, 3, 4], 0, 13, &tag)), (3, None));
+    assert_eq!(device.numbers(&upload(&[1, 2, 3, 4], 0, 13, &tag)), (6, None));
     // Both: resume, whatever the data.
     assert_eq!(device.numbers(&upload(&[9], 0, 12, &tag)), (0, Some(6)));
     assert_eq!((&memory, record), (&device.memory, device.record));
@@ -293,7 +302,7 @@ fn crc_is_over_the_body_only() {
         let mut record = [1, 50, 3, 0];
         let mut buffer = [0xEE; 8];
         let mut length = 99;
-        assert_eq!(port::take_line(&mut record, &line, &mut buffer, &mut length), expected);
+        assert_eq!(take_line(&mut record, &line, &mut buffer, &mut length), expected);
         assert_eq!(record, IDLE);
         assert_eq!((buffer, length), if expected == 0 { (body, 8) } else { ([0xEE; 8], 99) });
     }
@@ -310,14 +319,14 @@ fn each_frame_decodes_by_itself() {
     let mut record = IDLE;
     let mut buffer = [0xEE; 9];
     let mut length = 99;
-    assert_eq!(port::take_line(&mut record, &first, &mut buffer, &mut length), 0);
+    assert_eq!(take_line(&mut record, &first, &mut buffer, &mut length), 0);
     assert_eq!((record, length), ([1, 11, 2, 0], 0));
-    assert_eq!(port::take_line(&mut record, &second, &mut buffer, &mut length), 0);
+    assert_eq!(take_line(&mut record, &second, &mut buffer, &mut length), 0);
     assert_eq!((record, length), (IDLE, 9));
     assert_eq!(buffer, raw[2..]);
     // A text that is only well formed when joined with the next.
     let mut record = [1, 11, 2, 0];
-    assert_eq!(port::take_line(&mut record, b"\x04\x14AA\x0A", &mut buffer, &mut length), 4);
+    assert_eq!(take_line(&mut record, b"\x04\x14AA\x0A", &mut buffer, &mut length), 4);
     assert_eq!(record, IDLE);
 }
 
@@ -329,7 +338,7 @@ fn console_line_between_keeps_the_packet() {
     let mut buffer = [0; 200];
     let mut length = 99;
     for line in &lines {
-        assert_eq!(port::take_line(&mut record, line, &mut buffer, &mut length), 0);
+        assert_eq!(take_line(&mut record, line, &mut buffer, &mut length), 0);
         let before = (record, length);
         for (noise, refusal) in [
             (&b"hello\r\n"[..], 3),
@@ -340,7 +349,7 @@ fn console_line_between_keeps_the_packet() {
             (b"\x06\x09AAAA", 3),
             (&[b'x'; 128], 2),
         ] {
-            assert_eq!(port::take_line(&mut record, noise, &mut buffer, &mut length), refusal);
+            assert_eq!(take_line(&mut record, noise, &mut buffer, &mut length), refusal);
             assert_eq!((record, length), before);
         }
     }
@@ -353,7 +362,7 @@ fn reader_refusals_and_records() {
         let mut after = record;
         let mut buffer = vec![0xEE; room];
         let mut length = 99;
-        let answer = port::take_line(&mut after, line, &mut buffer, &mut length);
+        let answer = take_line(&mut after, line, &mut buffer, &mut length);
         if answer != 0 {
             assert!(buffer.iter().all(|byte| *byte == 0xEE));
             assert_eq!(length, 99);
@@ -485,13 +494,13 @@ fn first_chunk_checks() {
     let with = |parts: &[&[u8]]| first(parts.len() as u8, &parts.concat());
     assert_eq!(device.numbers(&with(&[])), (3, None));
     assert_eq!(device.numbers(&with(&[b"\x63len\x00"])), (3, None));
-    assert_eq!(device.numbers(&with(&[b"\x63len\x15"])), (3, None));
+    assert_eq!(device.numbers(&with(&[b"\x63len\x15"])), (2, None));
     assert_eq!(device.numbers(&with(&[b"\x63len\x09", b"\x65image\x01"])), (3, None));
     assert_eq!(device.numbers(&with(&[b"\x63len\x09", &sha(31, 5)])), (3, None));
     assert_eq!(device.numbers(&with(&[b"\x63len\x09", &sha(33, 5)])), (3, None));
     assert_eq!(device.numbers(&with(&[b"\x63len\x09", &sha(0, 5)])), (3, None));
-    assert_eq!(device.numbers(&with(&[b"\x63len\x08", &sha(32, 5)])), (3, None));
-    assert_eq!(device.numbers(&with(&[b"\x63len\x08", &sha(32, 5), b"\x67upgrade\xF5"])), (3, None));
+    assert_eq!(device.numbers(&with(&[b"\x63len\x08", &sha(32, 5)])), (6, None));
+    assert_eq!(device.numbers(&with(&[b"\x63len\x08", &sha(32, 5), b"\x67upgrade\xF5"])), (6, None));
     assert_eq!(device.numbers(&with(&[b"\x63len\x09", &sha(32, 5), b"\x67upgrade\xF5"])), (8, None));
     assert_eq!(device.numbers(&with(&[b"\x63len\x09", b"\x67upgrade\xF6"])), (3, None));
     assert_eq!(device.numbers(&with(&[b"\x63len\x09", b"\x63len\x09"])), (3, None));
@@ -517,6 +526,45 @@ fn first_chunk_checks() {
         device.numbers(&packet(1, 1, b"\xA4\x64data\x41\x07\x63off\x01\x65image\x09\x67upgrade\xF5")),
         (0, Some(2))
     );
+}
+
+#[test]
+fn first_chunk_checks_stand_in_their_order() {
+    let tag = [5; 32];
+    let sha = [&b"\x63sha\x58\x20"[..], &tag].concat();
+    let short = [&b"\x63sha\x58\x1F"[..], &tag[1..]].concat();
+    let (above, most, over) =
+        (b"\x63len\x15", b"\x63len\x1A\xFF\xFF\xFF\xFF", b"\x63len\x1B\0\0\0\x01\0\0\0\0");
+    let (image, upgrade, one) = (b"\x65image\x01", b"\x67upgrade\xF5", b"\x63len\x01");
+    let mut device = Device::new(0, 20, 20);
+    device.ask(&upload(&[1, 2], 0, 9, &tag));
+    // Each upload at offset 0 with two bytes of data and these pairs, and its rc.
+    let uploads: [(&[&[u8]], u32); 14] = [
+        (&[above], 2),
+        (&[most], 2),
+        (&[over], 3),
+        (&[over, &sha, upgrade], 3),
+        (&[above, image], 3),
+        (&[above, &short], 2),
+        (&[above, upgrade], 2),
+        (&[above, &sha], 2),
+        (&[above, &short, upgrade], 2),
+        (&[one, &sha], 3),
+        (&[one, &sha, upgrade], 3),
+        (&[b"\x63len\x08", &sha], 6),
+        (&[b"\x63len\x08", &sha, upgrade], 6),
+        (&[b"\x63len\x08", &sha, image], 3),
+    ];
+    for (pairs, rc) in uploads {
+        let map =
+            [&[0xA2 + pairs.len() as u8], &b"\x64data\x42\x07\x07\x63off\x00"[..], &pairs.concat()].concat();
+        assert_eq!(device.numbers(&packet(1, 1, &map)), (rc, None), "{pairs:x?}");
+    }
+    assert_eq!((device.record, device.tag), ([1, 9, 2, 1], tag));
+    assert_eq!(device.slot()[..3], [1, 2, 255]);
+    // Above offset 0 neither the length nor the tag counts.
+    let map = [&b"\xA4\x64data\x41\x07\x63off\x02"[..], above, &sha].concat();
+    assert_eq!(device.numbers(&packet(1, 1, &map)), (0, Some(3)));
 }
 
 #[test]

@@ -35,10 +35,10 @@ fn lines(body: &[u8]) -> Vec<Vec<u8>> {
 }
 
 /// An upload's packet, by the request writer.
-fn upload(data: &[u8], off: u64, length: u64) -> Vec<u8> {
+fn upload(data: &[u8], off: u64, length: u64, tag: &[u8]) -> Vec<u8> {
     let mut out = vec![0; 2000];
     let mut written = 0;
-    assert_eq!(port::write_upload(9, data, off, length, &[], &mut out, &mut written), 0);
+    assert_eq!(port::write_upload(9, data, off, length, tag, &mut out, &mut written), 0);
     out.truncate(written as usize);
     out
 }
@@ -116,11 +116,11 @@ impl Bench {
 
 /// The transcript of a file's replay, or the refusal.
 fn replayed(file: &[u8]) -> Result<String, u32> {
-    let mut bench = Bench::new(file.len());
+    let mut bench = Bench::new(2 * file.len());
     match bench.replay(file) {
         0 => Ok(bench.transcript()),
         refusal => {
-            assert!(bench == Bench::new(file.len()), "a refused replay leaves all");
+            assert!(bench == Bench::new(2 * file.len()), "a refused replay leaves all");
             Err(refusal)
         }
     }
@@ -255,15 +255,15 @@ fn answers_by_their_lines() {
 
 #[test]
 fn an_upload_and_a_list() {
-    let begun = lines(&upload(&[1; 100], 0, 4096));
-    let more = lines(&upload(&[2; 60], 100, 0));
+    let begun = lines(&upload(&[1; 100], 0, 4096, &[]));
+    let more = lines(&upload(&[2; 60], 100, 0, &[]));
     let reset = lines(&[2, 0, 0, 1, 0, 0, 7, 5, 0xA0]);
     let list = lines(&[0, 0, 0, 0, 0, 1, 7, 0]);
     let mut all: Vec<(u8, &[u8])> =
         begun.iter().chain(&list).chain(&more).map(|line| (TO, &line[..])).collect();
     let file = recording(b"", &all);
     assert_eq!(replayed(&file), Ok("0 0 -\n1 0 0\n2 0 0\n3 0 0\nend 160\n".to_string()));
-    let mut bench = Bench::new(12);
+    let mut bench = Bench::new(16);
     assert_eq!(bench.replay(&file), 0);
     assert_eq!((bench.session, bench.reader, bench.tag), ([1, 4096, 160, 0], [0; 4], [0; 32]));
     assert!(bench.memory[..4096].iter().all(|byte| *byte == 255));
@@ -276,19 +276,57 @@ fn an_upload_and_a_list() {
 }
 
 #[test]
+fn bad_texts_have_their_places_and_three_fields() {
+    let file = recording(
+        b"",
+        &[
+            (TO, b"\x06\x09AA-A\n"),
+            (FROM, b"\x06\x09A-AA\n"),
+            (TO, b"\x04\x14\n"),
+            (TO, b"\x06\x09AB==\n"),
+            (TO, b"boot\n"),
+            (TO, b"\x04\x14AAAAAAA\n"),
+            (TO, ZEROS),
+        ],
+    );
+    let mut bench = Bench::new(30);
+    assert_eq!((bench.replay(&file), bench.count), (0, 6));
+    let answers = [[4, 0, 0, 4], [4, 0, 0, 2], [4, 0, 0, 4], [3, 0, 0, 0], [4, 0, 0, 9], [0, 1, 3, 0]];
+    assert_eq!(bench.answers[..24], answers.concat());
+    assert_eq!(bench.answers[24..], [99; 6]);
+    assert_eq!(bench.transcript(), "0 4 -\n1 4 -\n2 4 -\n3 3 -\n4 4 -\n5 0 3\nend none\n");
+}
+
+#[test]
+fn rc_2_and_rc_6_in_a_replay() {
+    let tag = [5; 32];
+    let packets = [
+        upload(&[1], 0, 4097, &tag),
+        upload(&[1], 0, 4096, &tag),
+        upload(&[1], 0, 4095, &tag),
+        upload(&[1], 0, 4097, &tag),
+        upload(&[2], 1, 0, &[]),
+    ];
+    let all: Vec<Vec<u8>> = packets.iter().flat_map(|packet| lines(packet)).collect();
+    let records: Vec<(u8, &[u8])> = all.iter().map(|line| (TO, &line[..])).collect();
+    let transcript = replayed(&recording(b"", &records));
+    assert_eq!(transcript, Ok("0 0 2\n1 0 0\n2 0 6\n3 0 2\n4 0 0\nend 2\n".to_string()));
+}
+
+#[test]
 fn room_for_an_answer_to_each_record() {
     let file = recording(b"", &[(FROM, b""), (TO, ZEROS), (FROM, b"")]);
-    for numbers in [0, 1, 3, 8] {
+    for numbers in [0, 1, 4, 9, 11] {
         let mut bench = Bench::new(numbers);
         assert_eq!(bench.replay(&file), 12);
         assert!(bench == Bench::new(numbers));
     }
-    for numbers in [9, 10, 12] {
+    for numbers in [12, 13, 16] {
         let mut bench = Bench::new(numbers);
         assert_eq!(bench.replay(&file), 0);
         assert_eq!(bench.count, 1);
-        assert_eq!(bench.answers[..3], [0, 1, 3]);
-        assert!(bench.answers[3..].iter().all(|number| *number == 99));
+        assert_eq!(bench.answers[..4], [0, 1, 3, 0]);
+        assert!(bench.answers[4..].iter().all(|number| *number == 99));
         assert_eq!(bench.memory, [255; 8192]);
         assert_eq!((bench.session, bench.tag, bench.reader), ([0; 4], [0; 32], [0; 4]));
         assert_eq!((bench.packet[7], bench.packet[8]), (0, 0xEE));
@@ -299,7 +337,7 @@ fn room_for_an_answer_to_each_record() {
 #[test]
 fn a_transcript_of_any_numbers() {
     let most = u32::MAX;
-    let answers = [12, 0, 7, most, 2, most, 0, 1, 10];
+    let answers = [12, 0, 7, 9, most, 2, most, most, 0, 1, 10, 0];
     let cases: [(usize, [u32; 4], &str); 5] = [
         (0, [0, 1, 2, 3], "end none\n"),
         (0, [2, 0, 0, 0], "end 0\n"),
@@ -326,15 +364,15 @@ fn a_transcript_of_any_numbers() {
 
 #[test]
 fn fewer_answers_than_asked_for() {
-    let third = usize::MAX / 3;
+    let fourth = usize::MAX / 4;
     for (numbers, count) in [
         (0, 1),
-        (2, 1),
-        (3, 2),
-        (5, 2),
-        (8, third),
-        (8, third + 1),
-        (8, third + 3),
+        (3, 1),
+        (4, 2),
+        (7, 2),
+        (8, fourth),
+        (8, fourth + 1),
+        (8, fourth + 3),
         (8, 1 << 63),
         (8, usize::MAX),
     ] {
@@ -345,12 +383,11 @@ fn fewer_answers_than_asked_for() {
     }
 }
 
-#[test]
-fn the_recordings_of_the_cases() {
-    let folder = concat!(env!("CARGO_MANIFEST_DIR"), "/../tests/cases/W-205");
+/// Compares the transcript of every recording in a folder with the one beside it; gives how many there are.
+fn same_transcripts(folder: &str) -> usize {
     let list = std::fs::read_to_string(format!("{folder}/list.txt")).unwrap();
-    let mut cases = 0;
-    for line in list.lines().filter(|line| !line.starts_with('#')) {
+    let cases: Vec<&str> = list.lines().filter(|line| !line.starts_with('#')).collect();
+    for line in &cases {
         let number = line.split(' ').next().unwrap();
         let file = std::fs::read(format!("{folder}/{number}.bin")).unwrap();
         let wanted = std::fs::read_to_string(format!("{folder}/{number}.out")).unwrap();
@@ -360,7 +397,14 @@ fn the_recordings_of_the_cases() {
             _ => "bad recording\n".to_string(),
         };
         assert_eq!(printed, wanted, "{line}");
-        cases += 1;
     }
-    assert_eq!(cases, 90);
+    cases.len()
+}
+
+#[test]
+fn the_recordings_of_the_cases() {
+    for (name, number) in [("W-205", 90), ("W-206", 24)] {
+        let folder = format!("{}/../tests/cases/{name}", env!("CARGO_MANIFEST_DIR"));
+        assert_eq!(same_transcripts(&folder), number);
+    }
 }

@@ -86,9 +86,9 @@ static void run_count(char *rest)
     memset(packet, PAINT, sizeof packet);
     for (uint32_t k = 0; k < count; k++) {
         uint8_t out[MOST_ROOM];
-        uint32_t came = 0;
+        uint32_t came = 0, place = 0;
         want(sends(len, k, BG_LINE, out, lengths[k], count), "the sender gives another length or count");
-        want(bg_take_line(reader, out, lengths[k], packet, sizeof packet, &came) == BG_DONE
+        want(bg_take_line(reader, out, lengths[k], packet, sizeof packet, &came, &place) == BG_DONE
                  && came == (k + 1 == count ? len : 0),
              "the reader says something else");
         memcpy(lines + written, out, lengths[k]);

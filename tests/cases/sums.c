@@ -51,7 +51,7 @@ static void run(const char *name, const uint8_t *body, size_t len, unsigned want
     static uint8_t packet[BG_PACKET];
     uint32_t reader[BG_READER] = {0};
     uint32_t sent[2] = {0, 1};
-    uint32_t came = 0;
+    uint32_t came = 0, place = 0;
 
     cases++;
     memset(packet, PAINT, sizeof packet);
@@ -65,7 +65,7 @@ static void run(const char *name, const uint8_t *body, size_t len, unsigned want
         if (k + 1 == sent[1] && last_two(line, sent[0]) != wanted) {
             fault(name, "the sender's checksum is", last_two(line, sent[0]));
         }
-        returned = bg_take_line(reader, line, sent[0], packet, sizeof packet, &came);
+        returned = bg_take_line(reader, line, sent[0], packet, sizeof packet, &came, &place);
         if (returned != BG_DONE || (came > 0) != (k + 1 == sent[1])) {
             fault(name, "the reader says", returned);
             return;

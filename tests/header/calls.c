@@ -98,31 +98,38 @@ static void check_reader(void)
     uint8_t packet[16];
     uint32_t reader[BG_READER] = {0, 0, 0, 0};
     uint32_t body = 99;
+    uint32_t place = 99;
 
     memcpy(line, "\006\011AAoAAAAAAAAAAAAA\n", 20);
     memset(packet, 0xEE, sizeof packet);
-    check(bg_take_line(reader, NULL, 0, packet, sizeof packet, &body) == 3, "an empty line is refused 3");
-    check(bg_take_line(reader, line, 19, packet, 7, &body) == 7, "a buffer of 7 bytes is refused 7");
-    line[10] = '-';
-    check(bg_take_line(reader, line, 19, packet, sizeof packet, &body) == 4,
-          "text that is no Base64 is refused 4");
+    check(bg_take_line(reader, NULL, 0, packet, sizeof packet, &body, &place) == 3, "an empty line is refused 3");
+    check(bg_take_line(reader, line, 19, packet, 7, &body, &place) == 7, "a buffer of 7 bytes is refused 7");
     line[10] = 'B';
-    check(bg_take_line(reader, line, 19, packet, sizeof packet, &body) == 9, "a changed byte is refused 9");
+    check(bg_take_line(reader, line, 19, packet, sizeof packet, &body, &place) == 9, "a changed byte is refused 9");
+    check(place == 99, "a line that is refused otherwise leaves the place");
+    line[10] = '-';
+    check(bg_take_line(reader, line, 19, packet, sizeof packet, &body, &place) == BG_BAD_TEXT && place == 10,
+          "text that is no Base64 is refused 4, with the place");
+    check(bg_take_line(reader, (const uint8_t *)"\006\011AB==\n", 7, packet, 16, &body, &place) == 4 && place == 4,
+          "bits that are not zero have the place of the =");
+    check(bg_take_line(reader, (const uint8_t *)"\006\011AAA\n", 6, packet, 16, &body, &place) == 4 && place == 5,
+          "a text that is too short has the place of the 0A");
     line[10] = 'A';
-    check(body == 99 && packet[0] == 0xEE && same(reader, idle, 16), "a refused line leaves all");
-    check(bg_take_line(reader, line, 19, packet, sizeof packet, &body) == 0, "the line is taken");
+    check(body == 99 && packet[0] == 0xEE && same(reader, idle, 16), "a refused line leaves all else");
+    check(bg_take_line(reader, line, 19, packet, sizeof packet, &body, &place) == 0 && place == 5,
+          "the line is taken, and the place stays");
     check(body == 8 && same(packet, zeros, 8) && packet[8] == 0xEE && same(reader, idle, 16),
           "the line gives the body");
 
-    check(bg_take_line(reader, (const uint8_t *)"\006\011AAoA\n", 7, packet, 16, &body) == 0,
+    check(bg_take_line(reader, (const uint8_t *)"\006\011AAoA\n", 7, packet, 16, &body, &place) == 0,
           "a begun packet is taken");
     check(body == 0 && reader[0] != 0 && reader[1] == 10 && reader[2] == 1, "a begun packet is open");
-    check(bg_take_line(reader, (const uint8_t *)"console\n", 8, packet, 16, &body) == 3,
+    check(bg_take_line(reader, (const uint8_t *)"console\n", 8, packet, 16, &body, &place) == 3,
           "a console line is refused 3");
     check(reader[0] != 0 && reader[1] == 10 && reader[2] == 1, "a console line leaves the open packet");
-    check(bg_take_line(reader, (const uint8_t *)"\004\024AAAAAAAAAAAA\n", 15, packet, 16, &body) == 0 && body == 8,
+    check(bg_take_line(reader, (const uint8_t *)"\004\024AAAAAAAAAAAA\n", 15, packet, 16, &body, &place) == 0 && body == 8,
           "its partial frame completes it");
-    check(bg_take_line(reader, (const uint8_t *)"\004\024AAAA\n", 7, packet, 16, &body) == 5,
+    check(bg_take_line(reader, (const uint8_t *)"\004\024AAAA\n", 7, packet, 16, &body, &place) == 5,
           "no packet is open: 5");
 }
 
@@ -187,6 +194,17 @@ static void check_controller(void)
     check(same(memory, slot, 8), "the slot holds the image, and the rest stays");
     check(session[0] != 0 && session[1] == 3 && session[2] == 3 && session[3] != 0 && same(tag, image_tag, 32),
           "the session is open, whole and tagged");
+
+    check(bg_write_upload(201, data, 3, 0, 7, image_tag, 32, packet, sizeof packet, &len) == 0
+              && bg_handle(layout, memory, 8, session, tag, packet, len, reply, 64, answer) == 0
+              && bg_read_reply(reply, answer[0], numbers) == 0 && numbers[BG_REPLY_RC] == 2,
+          "a length above the slot is rc 2");
+    check(bg_write_upload(202, data, 3, 0, 4, image_tag, 32, packet, sizeof packet, &len) == 0
+              && bg_handle(layout, memory, 8, session, tag, packet, len, reply, 64, answer) == 0
+              && bg_read_reply(reply, answer[0], numbers) == 0 && numbers[BG_REPLY_RC] == 6,
+          "the session's tag with another length is rc 6");
+    check(same(memory, slot, 8) && session[1] == 3 && session[2] == 3 && same(tag, image_tag, 32),
+          "both leave slot and session");
 }
 
 /* Lists the images of two slots: none, then one in each; and what is answered with an rc. */
@@ -297,8 +315,8 @@ static void check_replies(void)
 /* Reads a recording's records, replays it and writes the transcript; and what is refused. */
 static void check_recordings(void)
 {
-    const uint8_t recording[56] = "any\076\000\023\006\011AAoAAAAAAAAAAAAA\n\074\000\004boo\n\076\000\001\n"
-                                  "\000\000\000\041\000\000\000\003";
+    const uint8_t recording[56] = "any\076\000\023\006\011AAoAAAAAAAAAAAAA\n\074\000\004boo\n\076\000\005\006\011A-\n"
+                                  "\000\000\000\045\000\000\000\003";
     const uint8_t trailer[8] = {0, 0, 0, 0, 0, 0, 0, 0};
     const uint32_t idle[4] = {0, 0, 0, 0};
     uint8_t file[56];
@@ -318,21 +336,21 @@ static void check_recordings(void)
     memcpy(file, recording, sizeof file);
     check(bg_first_record(file, 7, first) == 12, "seven bytes are no recording: 12");
     check(bg_first_record(NULL, 0, first) == 12, "no bytes are no recording: 12");
-    file[43] = 4;
-    check(bg_first_record(file, 44, first) == 12 && first[0] == 7, "a wrong number is refused 12, and all stays");
-    file[43] = 3;
-    check(bg_first_record(file, 44, first) == 0 && first[BG_FIRST_PLACE] == 3 && first[BG_FIRST_NUMBER] == 3,
+    file[47] = 4;
+    check(bg_first_record(file, 48, first) == 12 && first[0] == 7, "a wrong number is refused 12, and all stays");
+    file[47] = 3;
+    check(bg_first_record(file, 48, first) == 0 && first[BG_FIRST_PLACE] == 3 && first[BG_FIRST_NUMBER] == 3,
           "the first record stands behind the preface");
     check(bg_first_record(trailer, 8, first) == 0 && first[0] == 0 && first[1] == 0, "a trailer alone is a recording");
-    check(bg_next_record(file, 44, 0, record) == 12 && record[0] == 7, "the preface is no record: 12, and all stays");
-    check(bg_next_record(file, 44, 3, record) == 0 && record[BG_RECORD_KIND] == BG_TO_CONTROLLER
+    check(bg_next_record(file, 48, 0, record) == 12 && record[0] == 7, "the preface is no record: 12, and all stays");
+    check(bg_next_record(file, 48, 3, record) == 0 && record[BG_RECORD_KIND] == BG_TO_CONTROLLER
               && record[BG_RECORD_START] == 6 && record[BG_RECORD_LENGTH] == 19,
           "a line to the controller");
-    check(bg_next_record(file, 44, 25, record) == 0 && record[0] == BG_FROM_CONTROLLER && record[1] == 28 && record[2] == 4,
+    check(bg_next_record(file, 48, 25, record) == 0 && record[0] == BG_FROM_CONTROLLER && record[1] == 28 && record[2] == 4,
           "a line from the controller");
-    check(bg_next_record(file, 44, 36, record) == 0 && record[0] == BG_RECORDS_OVER && record[1] == 36 && record[2] == 0,
+    check(bg_next_record(file, 48, 40, record) == 0 && record[0] == BG_RECORDS_OVER && record[1] == 40 && record[2] == 0,
           "behind the last the records are over");
-    check(bg_next_record(file, 44, 37, record) == 12 && bg_next_record(file, 44, SIZE_MAX, record) == 12,
+    check(bg_next_record(file, 48, 41, record) == 12 && bg_next_record(file, 48, SIZE_MAX, record) == 12,
           "a place behind that is refused 12");
 
     memset(memory, 7, sizeof memory);
@@ -340,30 +358,32 @@ static void check_recordings(void)
     memset(reply, 0xEE, sizeof reply);
     memset(tag, 9, sizeof tag);
     memset(answers, 0xEE, sizeof answers);
-    check(bg_replay(file, 44, memory, session, tag, reader, packet, reply, answers, 8, &count) == 12,
+    check(bg_replay(file, 48, memory, session, tag, reader, packet, reply, answers, 3 * BG_ANSWER - 1, &count) == 12,
           "answers for two of three records are refused 12");
     check(memory[0] == 7 && session[0] == 9 && tag[0] == 9 && reader[0] == 9 && answers[0] == 0xEEEEEEEEu && count == 77,
           "a refused replay leaves all");
-    check(bg_replay(file, 44, memory, session, tag, reader, packet, reply, answers, 9, &count) == 0 && count == 2,
+    check(bg_replay(file, 48, memory, session, tag, reader, packet, reply, answers, 3 * BG_ANSWER, &count) == 0 && count == 2,
           "two lines to the controller");
-    check(answers[BG_ANSWER_REFUSAL] == 0 && answers[BG_ANSWER_REPLIED] == 1 && answers[BG_ANSWER_RC] == 3,
+    check(answers[BG_ANSWER_REFUSAL] == 0 && answers[BG_ANSWER_REPLIED] == 1 && answers[BG_ANSWER_RC] == 3
+              && answers[BG_ANSWER_PLACE] == 0,
           "the first is answered rc 3");
-    check(answers[3] == BG_NO_FRAME && answers[4] == 0 && answers[5] == 0 && answers[6] == 0xEEEEEEEEu,
-          "the second is refused 3, and the other numbers stay");
+    check(answers[4] == BG_BAD_TEXT && answers[5] == 0 && answers[6] == 0 && answers[7] == 3 && answers[8] == 0xEEEEEEEEu,
+          "the second is refused 4 with its place, and the other numbers stay");
     check(memory[0] == 255 && memory[BG_BENCH_MEMORY - 1] == 255 && same(session, idle, 16) && same(reader, idle, 16)
               && tag[0] == 0,
           "memory, session, tag and reader began anew");
     check(packet[0] == 0 && packet[8] == 0xEE && reply[12] == 3 && reply[13] == 0xEE, "the buffers have packet and reply");
 
     memset(out, 0xEE, sizeof out);
-    check(bg_write_transcript(answers, 5, 2, session, out, 32, &len) == 12, "answers for one of two are refused 12");
-    check(bg_write_transcript(answers, 9, SIZE_MAX / 3 + 1, session, out, 32, &len) == 12,
-          "a count whose three numbers are over 64 bits is refused 12");
-    check(bg_write_transcript(answers, 9, 2, session, out, 20, &len) == 12 && len == 77 && out[0] == 0xEE,
+    check(bg_write_transcript(answers, 2 * BG_ANSWER - 1, 2, session, out, 32, &len) == 12,
+          "answers for one of two are refused 12");
+    check(bg_write_transcript(answers, 3 * BG_ANSWER, SIZE_MAX / BG_ANSWER + 1, session, out, 32, &len) == 12,
+          "a count whose four numbers are over 64 bits is refused 12");
+    check(bg_write_transcript(answers, 2 * BG_ANSWER, 2, session, out, 20, &len) == 12 && len == 77 && out[0] == 0xEE,
           "an output too short is refused 12, and all stays");
-    check(bg_write_transcript(answers, 9, 2, session, out, 21, &len) == 0 && len == 21
-              && same(out, "0 0 3\n1 3 -\nend none\n\356", 22),
-          "a transcript");
+    check(bg_write_transcript(answers, 2 * BG_ANSWER, 2, session, out, 21, &len) == 0 && len == 21
+              && same(out, "0 0 3\n1 4 -\nend none\n\356", 22),
+          "a transcript, in which no place stands");
     session[BG_SESSION_OPEN] = 1;
     session[BG_SESSION_PLACE] = 4096;
     check(bg_write_transcript(NULL, 0, 0, session, out, 32, &len) == 0 && len == 9 && same(out, "end 4096\n", 9),

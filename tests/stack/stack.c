@@ -21,11 +21,19 @@ static const uint8_t image[40] = {0x3D, 0xB8, 0xF3, 0x96, [8] = 32, [20] = 255, 
 
 static uint8_t memory[8192], packet[1024], reply[1024], line[128], body[900], out[1024], tag[32];
 static uint8_t held[BG_HELD], lump[BG_LUMP];
-static uint32_t collector[BG_COLLECTOR], reader[4], session[4], numbers[12], size;
+static uint32_t collector[BG_COLLECTOR], reader[4], session[4], numbers[12], size, place;
 static size_t lump_len, line_len, packet_len, reply_len;
-static uint8_t recording[4096];
-static uint32_t answers[300];
+static uint8_t recording[16384];
+static uint32_t answers[BG_ANSWER * 200];
 static size_t recording_len, recorded, places[3], text_len;
+
+/* Texts that are not well formed, each of another kind: only too short; a character of no value, in each place of four; '=' too early; a character
+ * behind '='; bits that are not zero; more behind a padded group; a line end inside. */
+static const char *const bad_texts[] = {
+    "", "A", "AA", "AAA", "AA=", "-AAA", "A-AA", "AA-A", "AAA-", "=AAA", "A=AA", "====", "A===", "AA=A", "AA=\n", "AB==", "AB=A", "AAB=",
+    "AA==A", "AA==AAAA", "AAA=A", "AAA==", "A\nAA", "AA\rA",
+};
+enum { BAD_TEXTS = sizeof bad_texts / sizeof bad_texts[0], GROUP = 4, TEXT = BG_LINE - 3 };
 
 /* Runs the job on the painted stack. */
 static void enter(void) {
@@ -42,7 +50,7 @@ static void collect(void) {
 }
 
 static void take_line(void) {
-    bg_take_line(reader, line, line_len, packet, sizeof packet, &size);
+    bg_take_line(reader, line, line_len, packet, sizeof packet, &size, &place);
 }
 
 static void send_frame(void) {
@@ -98,32 +106,54 @@ static void next_record(void) {
 }
 
 static void replay(void) {
-    bg_replay(recording, recording_len, memory, session, tag, reader, packet, reply, answers, 300, &text_len);
+    bg_replay(recording, recording_len, memory, session, tag, reader, packet, reply, answers, sizeof answers / sizeof answers[0], &text_len);
 }
 
 static void write_transcript(void) {
-    bg_write_transcript(answers, 300, 100, session, out, sizeof out, &text_len);
+    bg_write_transcript(answers, sizeof answers / sizeof answers[0], 100, session, out, sizeof out, &text_len);
+}
+
+/* Makes a line with a bad text behind so many good groups, or as many as there is room for; the empty text is bad behind none only. */
+static void make_bad_line(const char *text, size_t groups) {
+    size_t len = strlen(text);
+    if (len == 0) {
+        groups = 0;
+    } else if (groups > (TEXT - len) / GROUP) {
+        groups = (TEXT - len) / GROUP;
+    }
+    line[0] = 6;
+    line[1] = 9;
+    memset(line + 2, 'A', GROUP * groups);
+    memcpy(line + 2 + GROUP * groups, text, len);
+    line_len = 2 + GROUP * groups + len;
+    line[line_len++] = '\n';
+}
+
+/* Adds the line that stands in the line array to the recording. */
+static void record_line(enum bg_record_kind kind) {
+    uint8_t *to = recording + recording_len;
+    to[0] = (uint8_t)kind;
+    to[1] = 0;
+    to[2] = (uint8_t)line_len;
+    memcpy(to + 3, line, line_len);
+    recording_len += 3 + line_len;
+    recorded++;
 }
 
 /* Adds the lines of a packet to the recording. */
 static void record_packet(const uint8_t *bytes, size_t len) {
     uint32_t sent[2] = {0, 1};
     for (uint32_t k = 0; k < sent[1]; k++) {
-        uint8_t *to = recording + recording_len;
-        if (bg_send_frame(bytes, len, k, to + 3, BG_LINE, sent) != 0) {
+        if (bg_send_frame(bytes, len, k, line, sizeof line, sent) != 0) {
             exit(2);
         }
-        to[0] = BG_TO_CONTROLLER;
-        to[1] = 0;
-        to[2] = (uint8_t)sent[0];
-        recording_len += 3 + sent[0];
-        recorded++;
+        line_len = sent[0];
+        record_line(BG_TO_CONTROLLER);
     }
 }
 
-/* Makes a recording of an upload of an image, an echo, a reset, a state read, and lines that are refused. */
+/* Makes a recording of an upload of an image, an echo, a reset, a state read, and lines with every bad text. */
 static void make_recording(void) {
-    static const uint8_t refused[] = {BG_TO_CONTROLLER, 0, 7, 6, 9, 'A', 'A', '-', 'A', '\n', BG_FROM_CONTROLLER, 0, 0};
     uint8_t uploaded[72] = {0};
     uint8_t request[1024];
     memcpy(uploaded, image, sizeof image);
@@ -140,9 +170,12 @@ static void make_recording(void) {
         exit(2);
     }
     record_packet(request, size);
-    memcpy(recording + recording_len, refused, sizeof refused);
-    recording_len += sizeof refused;
-    recorded += 2;
+    line_len = 0;
+    record_line(BG_FROM_CONTROLLER);
+    for (size_t i = 0; i < BAD_TEXTS; i++) {
+        make_bad_line(bad_texts[i], TEXT);
+        record_line(BG_TO_CONTROLLER);
+    }
     for (int i = 0; i < 4; i++) {
         recording[recording_len + i] = (uint8_t)(recording_len >> (24 - 8 * i));
         recording[recording_len + 4 + i] = (uint8_t)(recorded >> (24 - 8 * i));
@@ -167,12 +200,38 @@ static size_t used(void (*what)(void)) {
     return sizeof stack - i;
 }
 
+/* Prints what a call took, and says whether it is within its limit. */
+static int kept(const char *name, size_t n, size_t limit) {
+    printf("stack: %-22s %5zu bytes\n", name, n);
+    return n <= limit;
+}
+
 /* Measures one call, prints it, and says whether it is within its limit. */
 static int within(const char *name, void (*what)(void), size_t base) {
     size_t n = used(what);
-    n = n > base ? n - base : 0;
-    printf("stack: %-19s %5zu bytes\n", name, n);
-    return n <= (what == replay ? BG_BENCH_STACK : BG_STACK);
+    return kept(name, n > base ? n - base : 0, what == replay ? BG_BENCH_STACK : BG_STACK);
+}
+
+/* Measures bg_take_line over lines with every bad text, as their first group, behind one group and at the end of a full line, for an idle and an
+ * open record; prints the most that one took, and says whether it is within its limit. */
+static int within_bad_text(size_t base) {
+    static const size_t groups[] = {0, 1, TEXT};
+    size_t most = 0;
+    for (size_t i = 0; i < 2 * 3 * BAD_TEXTS; i++) {
+        size_t n;
+        make_bad_line(bad_texts[i / 6], groups[i / 2 % 3]);
+        reader[0] = i % 2;
+        reader[1] = 1000;
+        reader[2] = 91;
+        reader[3] = 0;
+        place = 0;
+        n = used(take_line);
+        most = n > most ? n : most;
+        if (reader[0] != 0 || place < 2 || place >= line_len) {
+            exit(2);
+        }
+    }
+    return kept("bg_take_line, bad text", most > base ? most - base : 0, BG_STACK);
 }
 
 int main(void) {
@@ -194,6 +253,7 @@ int main(void) {
     if (size != sizeof body) {
         return 2;
     }
+    fine &= within_bad_text(base);
     /* Behind calls that use memcpy: finding it for the first time takes stack of its own. */
     memset(lump, 7, sizeof lump);
     lump_len = BG_HELD;
@@ -241,7 +301,7 @@ int main(void) {
         return 2;
     }
     fine &= within("bg_replay", replay, base);
-    if (text_len + 1 != recorded || answers[BG_ANSWER * (text_len - 1)] != BG_BAD_TEXT) {
+    if (text_len + 1 != recorded || answers[BG_ANSWER * (text_len - 1)] != BG_BAD_TEXT || answers[BG_ANSWER * text_len - 1] != line_len - 2) {
         return 2;
     }
     fine &= within("bg_write_transcript", write_transcript, base);

@@ -36,6 +36,7 @@ static uint32_t take_packet(int port, uint8_t *packet, size_t room)
     static struct incoming in;
     uint32_t reader[BG_READER] = {0, 0, 0, 0};
     uint32_t body = 0;
+    uint32_t place = 0;
 
     for (uint64_t until = now_ms() + LIMIT_MS; body == 0 && now_ms() < until;) {
         struct pollfd wait = {.fd = port, .events = POLLIN};
@@ -43,7 +44,7 @@ static uint32_t take_packet(int port, uint8_t *packet, size_t room)
         read_lump(&in, port, BG_LUMP);
         while (body == 0 && in.at < in.lump_len) {
             if (next_line(&in) == 0 && in.line_len > 0) {
-                bg_take_line(reader, in.line, in.line_len, packet, room, &body);
+                bg_take_line(reader, in.line, in.line_len, packet, room, &body, &place);
             }
         }
     }

@@ -18,6 +18,9 @@ const char program[] = "fake";
 /* The memory, its slot, the packet buffer, how long the fake lives, and the packet at which some modes strike. */
 enum { MEMORY = 262144, START = 65536, SLOT = 131072, PACKET = 1024, LIFE_MS = 20000, STRIKE = 20 };
 
+/* The places of bad text in the lines of the first reply and of the others. */
+enum { FIRST_PLACE = 17, OTHER_PLACE = 5 };
+
 /* Slot 0 is all that stands before the slot. */
 static const size_t layout[BG_LAYOUT] = {0, START, START, SLOT};
 
@@ -99,14 +102,14 @@ static void configure(struct fake *f)
     }
 }
 
-/* Begins another host's session, of an image of 5,000 bytes without a tag. */
-static void begin_other_session(struct fake *f)
+/* Begins another host's session, of an image of 5,000 bytes, with a tag or without. */
+static void begin_other_session(struct fake *f, const uint8_t *tag, size_t tag_len)
 {
     static const uint8_t data[100] = {1, 2, 3};
     uint8_t request[PACKET];
     uint32_t len = 0;
 
-    if (bg_write_upload(9, data, sizeof data, 0, 5000, NULL, 0, request, sizeof request, &len) != 0) {
+    if (bg_write_upload(9, data, sizeof data, 0, 5000, tag, tag_len, request, sizeof request, &len) != 0) {
         fail("the other session was refused");
     }
     handle(f, request, len);
@@ -125,6 +128,7 @@ static bool answer_fixed(struct fake *f, const char *mode)
         {"same-offset", {0xA2, 0x62, 'r', 'c', 0, 0x63, 'o', 'f', 'f', 1}, 10, 1},
         {"zero-offset", {0xA2, 0x62, 'r', 'c', 0, 0x63, 'o', 'f', 'f', 0}, 10, 1},
         {"no-offset", {0xA1, 0x62, 'r', 'c', 0}, 5, 1},
+        {"invalid", {0xA1, 0x62, 'r', 'c', 3}, 5, 1},
         {"busy", {0xA1, 0x62, 'r', 'c', 10}, 5, STRIKE},
         {"other-text", {0xA1, 0x61, 'r', 0x65, 0x1B, '[', '2', 'J', 0x07}, 9, 1},
     };
@@ -169,6 +173,23 @@ static void send_after_long_line(struct fake *f, uint32_t len)
     write_all(f->master, piece, BG_LINE + 1 + sent[0], 200);
 }
 
+/* Sends a reply of one frame with a character of its text changed, or with the text's last character left out. */
+static void send_bad_text(struct fake *f, uint32_t len, bool cut)
+{
+    uint8_t line[BG_LINE];
+    uint32_t sent[2] = {0, 1};
+
+    if (bg_send_frame(f->reply, len, 0, line, sizeof line, sent) != 0 || sent[1] != 1) {
+        fail("the reply is not one frame");
+    }
+    if (cut) {
+        line[--sent[0] - 1] = 0x0A;
+    } else {
+        line[f->packets == 1 ? FIRST_PLACE : OTHER_PLACE] = '-';
+    }
+    write_all(f->master, line, sent[0], 200);
+}
+
 /* Sends a right reply, after others or changed as the mode says. */
 static void send_reply(struct fake *f, const char *mode, uint32_t len)
 {
@@ -176,6 +197,10 @@ static void send_reply(struct fake *f, const char *mode, uint32_t len)
 
     if (strcmp(mode, "long-line") == 0) {
         send_after_long_line(f, len);
+        return;
+    }
+    if (strcmp(mode, "bad-text") == 0 || strcmp(mode, "cut-text") == 0) {
+        send_bad_text(f, len, strcmp(mode, "cut-text") == 0);
         return;
     }
     if (strcmp(mode, "other-sequence") == 0) {
@@ -228,7 +253,11 @@ static bool answer(struct fake *f, const char *mode, size_t len)
         return true;
     }
     if (strcmp(mode, "other-session") == 0 && f->packets == STRIKE) {
-        begin_other_session(f);
+        begin_other_session(f, NULL, 0);
+    }
+    if (strcmp(mode, "other-length") == 0 && f->packets == 1) {
+        /* The tag ends the packet of an upload at offset 0. */
+        begin_other_session(f, f->packet + len - BG_TAG, BG_TAG);
     }
     reply_len = handle(f, f->packet, len);
     if (strcmp(mode, "never-proves") == 0 && f->session[1] == f->session[2]) {
@@ -271,8 +300,9 @@ int main(int argc, char **argv)
         read_lump(&in, f->master, BG_LUMP);
         while (in.at < in.lump_len) {
             uint32_t body = 0;
+            uint32_t place = 0;
             if (next_line(&in) != 0 || in.line_len == 0 ||
-                bg_take_line(reader, in.line, in.line_len, f->packet, PACKET, &body) != 0 || body == 0) {
+                bg_take_line(reader, in.line, in.line_len, f->packet, PACKET, &body, &place) != 0 || body == 0) {
                 continue;
             }
             if (strcmp(argv[1], "babbling") != 0 && !answer(f, argv[1], body)) {

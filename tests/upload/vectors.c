@@ -1,5 +1,5 @@
 /* What needs no archive: the published vectors of SHA-256 (FIPS 180-4's examples), rows of progress for every width,
- * escaped texts, numbers and speeds. */
+ * escaped texts, numbers, speeds and the words for refusals. */
 #include <stdio.h>
 #include <stdlib.h>
 #include <string.h>
@@ -101,6 +101,23 @@ static int small_things_differ(void)
     return bad;
 }
 
+/* Compares the words for the refusal of a line: bad text with its place, others as they are without one. */
+static int refusals_differ(void)
+{
+    int bad = 0;
+
+    bad += text_differs("bad text", line_refusal_words(4, 17, 30), "the text at place 17 is not Base64");
+    bad += text_differs("bad text, last", line_refusal_words(4, 125, 127), "the text at place 125 is not Base64");
+    bad += text_differs("short text", line_refusal_words(4, 5, 6), "the text ends too early, at place 5");
+    bad += text_differs("short text, full", line_refusal_words(4, 126, 127), "the text ends too early, at place 126");
+    for (uint32_t refusal = 0; refusal < 15; refusal++) {
+        if (refusal != 4) {
+            bad += text_differs("another refusal", line_refusal_words(refusal, 17, 18), refusal_words(refusal));
+        }
+    }
+    return bad;
+}
+
 /* Runs the vectors. */
 int main(void)
 {
@@ -129,5 +146,6 @@ int main(void)
     }
     bad += words_differ();
     bad += small_things_differ();
+    bad += refusals_differ();
     return bad == 0 ? 0 : 1;
 }

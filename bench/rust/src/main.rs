@@ -1,5 +1,6 @@
 //! Measures the second program: bench PATH KIB ROUNDS. See bench/driver.c, whose paths, sizes, buffers and output these are.
 
+use second::replay::ANSWER;
 use second::{crc, port};
 use std::sync::atomic::{compiler_fence, Ordering};
 use std::time::Instant;
@@ -49,6 +50,7 @@ struct World {
     step_count: usize,
     lines: Vec<u8>,
     line_lens: Vec<u32>,
+    line_places: Vec<u32>,
     line_count: usize,
     out: Vec<u8>,
     out_len: usize,
@@ -150,14 +152,28 @@ fn run_collect(w: &mut World) {
 /// Reads every line of every body.
 fn run_read(w: &mut World) {
     let mut reader = [0; 4];
-    let mut body = 0;
+    let (mut body, mut place) = (0, 0);
     w.out_len = 0;
     for i in 0..w.line_count {
         let line = &w.lines[i * STRIDE..i * STRIDE + w.line_lens[i] as usize];
-        if port::take_line(&mut reader, line, &mut w.out[w.out_len..w.out_len + LONGEST], &mut body) != 0 {
+        let packet = &mut w.out[w.out_len..w.out_len + LONGEST];
+        if port::take_line(&mut reader, line, packet, &mut body, &mut place) != 0 {
             fail("a line was refused");
         }
         w.out_len += body as usize;
+    }
+}
+
+/// Reads every line, each of which has a bad text.
+fn run_bad(w: &mut World) {
+    let mut reader = [0; 4];
+    let mut body = 0;
+    for i in 0..w.line_count {
+        let line = &w.lines[i * STRIDE..i * STRIDE + w.line_lens[i] as usize];
+        let packet = &mut w.out[..LONGEST];
+        if port::take_line(&mut reader, line, packet, &mut body, &mut w.line_places[i]) != 4 {
+            fail("a bad text was not refused");
+        }
     }
 }
 
@@ -206,14 +222,15 @@ fn run_handle(w: &mut World) {
 fn pass(packet: &[u8], to: &mut [u8]) -> usize {
     let mut reader = [0; 4];
     let mut sent = [0, 1];
-    let mut body = 0;
+    let (mut body, mut place) = (0, 0);
     let mut line = [0; STRIDE];
     let mut k = 0;
     while k < sent[1] as usize {
         if port::send_frame(packet, k, &mut line[..LINE], &mut sent) != 0 {
             fail("a frame was refused");
         }
-        if port::take_line(&mut reader, &line[..sent[0] as usize], &mut to[..LONGEST], &mut body) != 0 {
+        let line = &line[..sent[0] as usize];
+        if port::take_line(&mut reader, line, &mut to[..LONGEST], &mut body, &mut place) != 0 {
             fail("a line was refused");
         }
         k += 1;
@@ -298,6 +315,22 @@ fn run_replay(w: &mut World) {
     if port::write_transcript(answers, *count, session, &mut w.out[..RECORDING], &mut w.out_len) != 0 {
         fail("a transcript was refused");
     }
+}
+
+/// Sends the bodies, and spoils a character in the last group of each full line, in each of its four places in turn; other
+/// lines are left out.
+fn make_bad(w: &mut World) {
+    run_send(w);
+    let mut kept = 0;
+    for i in 0..w.line_count {
+        if w.line_lens[i] as usize == LINE {
+            w.lines.copy_within(i * STRIDE..i * STRIDE + LINE, kept * STRIDE);
+            w.lines[kept * STRIDE + LINE - 2 - kept % 4] = b'-';
+            w.line_lens[kept] = LINE as u32;
+            kept += 1;
+        }
+    }
+    w.line_count = kept;
 }
 
 /// Joins the lines of every body to one stream in the output, and clears them.
@@ -542,6 +575,13 @@ fn read_bodies(w: &World) -> Produced {
     Produced { digest: digest(NO_BYTES, read), bytes: w.image.len(), calls: w.line_count }
 }
 
+/// The places of the bad texts.
+fn found_places(w: &World) -> Produced {
+    let places = w.line_places[..w.line_count].iter();
+    let digest = places.fold(0u64, |value, place| value.wrapping_mul(31).wrapping_add(*place as u64));
+    Produced { digest, bytes: total(&w.line_lens[..w.line_count]), calls: w.line_count }
+}
+
 /// The CRCs.
 fn computed_crcs(w: &World) -> Produced {
     let bytes = w.image.len();
@@ -619,6 +659,7 @@ fn path_of(name: &str) -> Path {
         "read" => (run_send, run_read, read_bodies, BODY, 0, 0),
         "readlong" => (run_send, run_read, read_bodies, LONGEST, 0, 0),
         "readlong-open" => (run_send, run_read, read_bodies, LONGEST, 1, 0),
+        "readbad" => (make_bad, run_bad, found_places, LONGEST, 0, 0),
         "crc" => (make_nothing, run_crc, computed_crcs, BODY, 0, 0),
         "reply" => (make_upload, run_reply, read_replies, 0, 0, 0),
         "echo" => (make_echo_replies, run_reply, read_replies, 0, 0, 0),
@@ -657,6 +698,7 @@ fn set_up(size: usize, body_size: usize, leave_last: usize, lump_size: usize, fa
         step_count: 0,
         lines: touched((size / 64 + 16) * STRIDE),
         line_lens: vec![1; size / 64 + 16],
+        line_places: vec![1; size / 64 + 16],
         line_count: 0,
         out: touched(2 * size + 2 * 65536),
         out_len: 0,
@@ -682,7 +724,7 @@ fn set_up(size: usize, body_size: usize, leave_last: usize, lump_size: usize, fa
             reader: [0; 4],
             packet: [0; PACKET],
             reply: [0; PACKET],
-            answers: vec![1; 3 * RECORDS],
+            answers: vec![1; ANSWER * RECORDS],
             count: 0,
             recording: touched(RECORDING),
         },

@@ -1,7 +1,10 @@
 //! The classes of recordings: of files, of their records, of replays and of transcripts.
 
-use super::{frames::FRAMES, Group};
+use super::{frames::FRAMES, starts, texts, Group};
 use crate::call::{Call, Outcome};
+use second::reader::{self, Taken};
+use second::replay::{ANSWER, BUFFER, MEMORY};
+use second::{controller, recording};
 use std::ops::Range;
 
 /// How a row of records ends.
@@ -253,7 +256,7 @@ pub struct Replay {
     /// How many numbers there were for answers.
     room: usize,
     returned: u32,
-    answers: Vec<[u32; 3]>,
+    answers: Vec<[u32; ANSWER]>,
     session: [u32; 4],
     reader_open: bool,
     /// The upload slot has been written.
@@ -264,7 +267,7 @@ pub struct Replay {
 
 impl Replay {
     /// Says whether one of its answers is this.
-    fn answers(&self, answer: [u32; 3]) -> bool {
+    fn answers(&self, answer: [u32; ANSWER]) -> bool {
         self.returned == 0 && self.answers.contains(&answer)
     }
 
@@ -280,32 +283,34 @@ pub(super) const REPLAYS: Group<Replay> = Group {
     classes: &[
         ("refused 12: no recording", |it| it.returned == 12 && !it.file.whole()),
         ("refused 12: one number short", |it| {
-            it.returned == 12 && it.file.whole() && it.room + 1 == 3 * it.file.number
+            it.returned == 12 && it.file.whole() && it.room + 1 == ANSWER * it.file.number
         }),
         ("refused 12: room for the lines to the controller only", |it| {
-            it.returned == 12 && it.file.whole() && it.room == 3 * it.file.to_controller()
+            it.returned == 12 && it.file.whole() && it.room == ANSWER * it.file.to_controller()
         }),
-        ("room for each record", |it| it.returned == 0 && it.room == 3 * it.file.number),
-        ("more room", |it| it.returned == 0 && it.room > 3 * it.file.number),
+        ("room for each record", |it| it.returned == 0 && it.room == ANSWER * it.file.number),
+        ("more room", |it| it.returned == 0 && it.room > ANSWER * it.file.number),
         ("no records", |it| it.returned == 0 && it.file.number == 0),
         ("lines from the controller only", |it| {
             it.returned == 0 && it.file.number > 0 && it.answers.is_empty()
         }),
         ("both ways", |it| it.returned == 0 && !it.answers.is_empty() && it.answers.len() < it.file.number),
         ("a preface", |it| it.returned == 0 && !it.answers.is_empty() && it.file.distance < it.file.before),
-        ("more", |it| it.answers([0, 0, 0])),
-        ("a line refused 2", |it| it.answers([2, 0, 0])),
-        ("a line refused 3", |it| it.answers([3, 0, 0])),
-        ("a line refused 4", |it| it.answers([4, 0, 0])),
-        ("a line refused 5", |it| it.answers([5, 0, 0])),
-        ("a line refused 6", |it| it.answers([6, 0, 0])),
-        ("a line refused 7", |it| it.answers([7, 0, 0])),
-        ("a line refused 8", |it| it.answers([8, 0, 0])),
-        ("a line refused 9", |it| it.answers([9, 0, 0])),
-        ("a packet refused 10", |it| it.answers([10, 0, 0])),
-        ("rc 0", |it| it.answers([0, 1, 0])),
-        ("rc 3", |it| it.answers([0, 1, 3])),
-        ("rc 8", |it| it.answers([0, 1, 8])),
+        ("more", |it| it.answers([0, 0, 0, 0])),
+        ("a line refused 2", |it| it.answers([2, 0, 0, 0])),
+        ("a line refused 3", |it| it.answers([3, 0, 0, 0])),
+        ("a line refused 4", |it| it.answers.iter().any(|answer| answer[0] == 4)),
+        ("a line refused 5", |it| it.answers([5, 0, 0, 0])),
+        ("a line refused 6", |it| it.answers([6, 0, 0, 0])),
+        ("a line refused 7", |it| it.answers([7, 0, 0, 0])),
+        ("a line refused 8", |it| it.answers([8, 0, 0, 0])),
+        ("a line refused 9", |it| it.answers([9, 0, 0, 0])),
+        ("a packet refused 10", |it| it.answers([10, 0, 0, 0])),
+        ("rc 0", |it| it.answers([0, 1, 0, 0])),
+        ("rc 2", |it| it.answers([0, 1, 2, 0])),
+        ("rc 3", |it| it.answers([0, 1, 3, 0])),
+        ("rc 6", |it| it.answers([0, 1, 6, 0])),
+        ("rc 8", |it| it.answers([0, 1, 8, 0])),
         ("an image listed", |it| it.returned == 0 && it.listed),
         ("open at the end", Replay::open),
         ("open at the end, all has come", |it| it.open() && it.session[1] == it.session[2]),
@@ -331,18 +336,23 @@ pub struct Transcript {
     returned: u32,
     /// The text's length, where there are enough numbers.
     needed: Option<usize>,
-    answers: Vec<[u32; 3]>,
+    answers: Vec<[u32; ANSWER]>,
     session: [u32; 4],
 }
 
 impl Transcript {
+    /// How many numbers so many answers have.
+    fn wanted(&self) -> u128 {
+        ANSWER as u128 * self.count as u128
+    }
+
     /// Says whether it was refused for too few numbers.
     fn few(&self) -> bool {
         self.returned == 12 && self.needed.is_none()
     }
 
     /// Says whether it was written, and one of its answers is so.
-    fn has(&self, holds: impl Fn(&[u32; 3]) -> bool) -> bool {
+    fn has(&self, holds: impl Fn(&[u32; ANSWER]) -> bool) -> bool {
         self.returned == 0 && self.answers.iter().any(holds)
     }
 }
@@ -351,12 +361,12 @@ pub(super) const TRANSCRIPTS: Group<Transcript> = Group {
     name: "bg_write_transcript",
     first: REPLAYS.end(),
     classes: &[
-        ("refused 12: one number short", |it| it.few() && it.numbers as u128 + 1 == 3 * it.count as u128),
-        ("refused 12: one answer short", |it| it.few() && it.numbers as u128 + 3 == 3 * it.count as u128),
+        ("refused 12: one number short", |it| it.few() && it.numbers as u128 + 1 == it.wanted()),
+        ("refused 12: one answer short", |it| it.few() && (it.numbers + ANSWER) as u128 == it.wanted()),
         ("refused 12: no numbers", |it| it.few() && it.numbers == 0),
-        ("refused 12: three times the count over 64 bits", |it| it.few() && 3 * it.count as u128 >> 64 != 0),
+        ("refused 12: four times the count over 64 bits", |it| it.few() && it.wanted() >> 64 != 0),
         ("refused 12: enough numbers but for what is over 64 bits", |it| {
-            it.few() && it.numbers as u64 >= it.count.wrapping_mul(3)
+            it.few() && it.numbers as u64 >= it.wanted() as u64
         }),
         ("refused 12: a count from 2^63 on", |it| it.few() && it.count >> 63 != 0),
         ("refused 12: one byte short", |it| {
@@ -365,12 +375,13 @@ pub(super) const TRANSCRIPTS: Group<Transcript> = Group {
         ("refused 12: no output", |it| it.returned == 12 && it.needed.is_some() && it.room == 0),
         ("room for the text", |it| it.returned == 0 && it.needed == Some(it.room)),
         ("more room", |it| it.returned == 0 && it.needed < Some(it.room)),
-        ("more answers", |it| it.returned == 0 && it.numbers as u64 >= 3 * it.count + 3),
+        ("more answers", |it| it.returned == 0 && it.numbers as u128 >= it.wanted() + ANSWER as u128),
         ("no answers", |it| it.returned == 0 && it.count == 0),
         ("ten answers or more", |it| it.returned == 0 && it.count >= 10),
         ("a hundred answers or more", |it| it.returned == 0 && it.count >= 100),
         ("no reply", |it| it.has(|answer| answer[1] == 0)),
         ("no reply, but a number for its rc", |it| it.has(|answer| answer[1] == 0 && answer[2] != 0)),
+        ("no reply, but a place", |it| it.has(|answer| answer[1] == 0 && answer[3] != 0)),
         ("an rc", |it| it.has(|answer| answer[1] == 1)),
         ("an rc, by another number than 1", |it| it.has(|answer| answer[1] > 1)),
         ("a refusal and an rc", |it| it.has(|answer| answer[0] != 0 && answer[1] != 0)),
@@ -415,8 +426,34 @@ pub fn add_record(call: &Call, outcome: &Outcome, list: &mut Vec<usize>) {
 }
 
 /// The first answers among the numbers of a call.
-fn answers(numbers: &[u32], count: usize) -> Vec<[u32; 3]> {
-    numbers.chunks_exact(3).take(count).map(|answer| answer.try_into().unwrap()).collect()
+fn answers(numbers: &[u32], count: usize) -> Vec<[u32; ANSWER]> {
+    numbers.chunks_exact(ANSWER).take(count).map(|answer| answer.try_into().unwrap()).collect()
+}
+
+/// Adds the numbers of the classes that the lines of a replay are of, by feeding them once more, with their answers.
+fn add_lines(file: &[u8], answers: &[[u32; ANSWER]], list: &mut Vec<usize>) {
+    let (mut memory, mut packet, mut reply) = ([255; MEMORY], [0; BUFFER], [0; BUFFER]);
+    let (mut session, mut tag, mut reader) = ([0; 4], [0; 32], [0; 4]);
+    let (_, records) = recording::read(file).expect("a recording, since it was replayed");
+    let lines = records.iter().filter(|record| record.way == recording::Way::ToController);
+    for (record, [refusal, replied, rc, place]) in lines.zip(answers) {
+        let line = &file[record.line.clone()];
+        if *refusal == 4 {
+            texts::add_replayed(line, *place, reader[0] != 0, list);
+            reader = [0; 4];
+            continue;
+        }
+        if let Ok(Taken::Complete(length)) = reader::take_line(&mut reader, line, &mut packet) {
+            let packet = &packet[..length];
+            if *replied == 1 {
+                starts::add_replayed(packet, (MEMORY / 2) as u64, session, &tag, *rc, list);
+            }
+            let layout = [0, MEMORY / 2, MEMORY / 2, MEMORY / 2];
+            let handled =
+                controller::handle(&layout, &mut memory, &mut session, &mut tag, packet, &mut reply);
+            assert_eq!(handled.is_ok(), *replied == 1);
+        }
+    }
 }
 
 /// Adds the numbers of the classes that a replay is of.
@@ -433,6 +470,9 @@ pub fn add_replay(call: &Call, outcome: &Outcome, list: &mut Vec<usize>) {
         listed: done && outcome.buffers[4][8..].starts_with(b"\xA1\x66images\x81"),
     };
     REPLAYS.add(&replay, list);
+    if !replay.answers.is_empty() {
+        add_lines(&call.buffers[0], &replay.answers, list);
+    }
 }
 
 /// How many digits a number has.
@@ -444,9 +484,9 @@ fn digits(number: u64) -> usize {
 pub fn add_transcript(call: &Call, outcome: &Outcome, list: &mut Vec<usize>) {
     let (session, numbers) = call.words.split_at(4);
     let count = call.numbers[0];
-    let enough = 3 * count as u128 <= numbers.len() as u128;
+    let enough = ANSWER as u128 * count as u128 <= numbers.len() as u128;
     let answers = if enough { answers(numbers, count as usize) } else { vec![] };
-    let line = |(k, answer): (usize, &[u32; 3])| {
+    let line = |(k, answer): (usize, &[u32; ANSWER])| {
         let rc = if answer[1] != 0 { digits(answer[2] as u64) } else { 1 };
         digits(k as u64) + 1 + digits(answer[0] as u64) + 1 + rc + 1
     };

@@ -15,7 +15,6 @@ use Rattle.laws.specs.Bytes.{Bytes}
 use Rattle.laws.proofs.Choice.{pick-yes, pick-no, pick-case, pick-keep, both-yes, both-true}
 use Rattle.laws.proofs.Lists.{bytes-none, bytes-cons, bytes-join}
 use Rattle.base64.specs.Base64.{char, value, pad, encode, known, first, second, third, full, three, final, ahead, decode, DecodeEncode, EncodeDecode}
-use Rattle.base64.specs.Inner.{bytesIn, kept, stored}
 
 -- a test that holds of every number below n
 every : (ℕ → Bool) → ℕ → Bool
@@ -279,7 +278,7 @@ module _ (P : List ℕ → List ℕ → Type 0)
     (more : (a b c d : ℕ) (t x : List ℕ) → 0 < length t → full a b c d ≡ true → decode t ≡ some x → P t x
     → P (a ∷ b ∷ c ∷ d ∷ t) (three a b c d ++ x)) where
   -- the principle, group by group
-  decode-elim : (t x : List ℕ) → decode t ≡ some x → P t x
+  pub decode-elim : (t x : List ℕ) → decode t ≡ some x → P t x
   unfolding decode
   decode-elim [] x e = absurd (none-some x e)
   decode-elim (a ∷ []) x e = absurd (none-some x e)
@@ -356,21 +355,3 @@ encode-length (a ∷ b ∷ c ∷ s) = omega (arith, encode-length s)
 pub decode-groups : (t x : List ℕ) → decode t ≡ some x → length t % 4 ≡ 0
 decode-groups =
     decode-elim (λ (t x : List ℕ). length t % 4 ≡ 0) (λ a b c d x e. refl) (λ a b c d t x some-text f e h. omega arith)
-
--- a group before more text keeps its bytes before those of the rest
-pub kept-more : (a b c d : ℕ) (t : List ℕ) → 0 < length t → kept (a ∷ b ∷ c ∷ d ∷ t) ≡ pick (full a b c d) (three a b c d ++ kept t) []
-unfolding kept
-kept-more a b c d [] h = absurd (omega arith)
-kept-more a b c d (e ∷ t) h = refl
-
--- of a text that decodes, all groups keep their bytes
-kept-good : (t x : List ℕ) → decode t ≡ some x → kept t ≡ x
-unfolding kept bytesIn
-kept-good =
-    decode-elim (λ (t x : List ℕ). kept t ≡ x) (λ a b c d x e. ap bytesIn e)
-    (λ a b c d t x some-text f e h. kept-more a b c d t some-text ∙ rw (f, pick-yes) (ap (λ (l : List ℕ). three a b c d ++ l) h))
-
--- of a text that decodes, a decoder that goes once over it has stored all bytes
-pub stored-good : (t x : List ℕ) → decode t ≡ some x → stored t ≡ x
-unfolding stored
-stored-good t x e = rw (eq-eqb (length t % 4) 0 (decode-groups t x e), pick-yes) (kept-good t x e)

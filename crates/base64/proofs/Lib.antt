@@ -1,5 +1,2 @@
 pub mod Laws
-pub mod Steps
-pub mod Runs
-pub mod Texts
-pub mod Answer
+pub mod Pasted

@@ -1,2 +1,1 @@
 pub mod Base64
-pub mod Inner

@@ -40,7 +40,7 @@ use Rattle.controller.specs.Doing.{actFor, replyTo, responseFor, responseMap, a
 use Rattle.controller.specs.Handle.{Taking, Outcome, request, actBy, bytesBy, saidBy, handled, handle}
 use Rattle.controller.proofs.Laws.{taking-request, response-answerable}
 use Rattle.history.proofs.Answered.{always-answered}
-use Rattle.host.specs.Write.{writeUpload}
+use Rattle.uploads.specs.Upload.{writeUpload}
 use Rattle.replies.specs.Read.{reply, readReply}
 use Rattle.meant.specs.Meant.{sent, UploadIs, rcMeant, offMeant, textMeant, TextIs}
 use Rattle.meant.proofs.Meant.{group-small, reply-meant, upload-meant}

@@ -26,7 +26,8 @@ use Rattle.smp.specs.Reply.{replyHeader}
 use Rattle.controller.specs.declared.Response.{Response}
 use Rattle.controller.specs.Doing.{replyTo, responseFor, responseMap}
 use Rattle.controller.specs.Handle.{Outcome, replied, request, saidBy, handle}
-use Rattle.host.specs.Write.{packet, writeUpload}
+use Rattle.host.specs.Write.{packet}
+use Rattle.uploads.specs.Upload.{writeUpload}
 use Rattle.replies.specs.Read.{reply, readReply}
 use Rattle.meant.specs.Meant.{sent, UploadIs, rcMeant, offMeant, textMeant, TextIs}
 

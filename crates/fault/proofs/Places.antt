@@ -24,8 +24,8 @@ placed t i h b n =
     record {
       within = h;
       before = λ j l.
-        let e = ap (λ (s : List ℕ). s ++ drop (j + 1) (take i t)) (sym (take-take (j + 1) i t (omega arith))) ∙ take-append-drop (j + 1) (take i t) in
-        shorter (take (j + 1) t) (drop (j + 1) (take i t)) (rw e b);
+          let e = ap (λ (s : List ℕ). s ++ drop (j + 1) (take i t)) (sym (take-take (j + 1) i t (omega arith))) ∙ take-append-drop (j + 1) (take i t) in
+          shorter (take (j + 1) t) (drop (j + 1) (take i t)) (rw e b);
       there = n;
     }
 

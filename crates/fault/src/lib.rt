@@ -1,4 +1,4 @@
-// Where a text stops being the beginning of well-formed Base64. The decoder of base64 says that a text is not well formed, this function where: it is
+// Where a text stops being the beginning of well-formed Base64. The decoder says that a text is not well formed, this function where: it is
 // called for such texts alone, and needs no table.
 ghost use mathlib.Core.Path.{_≡_};
 ghost use Rattle.base64.specs.Base64.{value};

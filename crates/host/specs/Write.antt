@@ -1,16 +1,16 @@
--- The request writer: "op 2 and flags 0, gives reset and erase the payload A0, and emits upload keys in the order data, len, off, sha; len
--- and sha only at offset 0". A tag of no bytes is an absent one.
+-- The writers of echo, reset and erase requests: "op 2 and flags 0, gives reset and erase the payload A0"; and what every request writer says and
+-- leaves.
 -- Assumes nothing.
-use Prim.Native.Nat.{ℕ, _+_, _%_}
-use mathlib.Core.Bool.{Bool, not}
+use Prim.Native.Nat.{ℕ}
+use mathlib.Core.Bool.{Bool}
 use mathlib.Core.List.{List, _++_}
-use lib.Dec.{ltb, leb, eqb}
+use lib.Dec.{ltb, leb}
 use lib.ListN.{length}
 use Rattle.laws.specs.Choice.{pick, both}
 use Rattle.laws.specs.Bytes.{pasted}
 use Rattle.refusal.specs.Number.{numberOf}
-use Rattle.cbor.specs.Write.{unsigned, bytesOf, textOf, mapOf}
-use Rattle.map.specs.Keys.{nameD, nameData, nameLen, nameOff, nameSha}
+use Rattle.cbor.specs.Write.{textOf, mapOf}
+use Rattle.map.specs.Keys.{nameD}
 use Rattle.smp.specs.declared.Header.{Header}
 use Rattle.smp.specs.Packet.{headerBytes}
 use Rattle.host.specs.declared.Written.{Written}
@@ -27,19 +27,6 @@ requestPacket group sequence command m = headerBytes (requestHeader group sequen
 -- {"d": text}
 unfoldable pub echoMap : List ℕ → List ℕ
 echoMap text = mapOf 1 ++ (textOf nameD ++ textOf text)
-
--- {"data": x, "off": off}
-unfoldable pub laterMap : List ℕ → ℕ → List ℕ
-laterMap x off = mapOf 2 ++ (textOf nameData ++ (bytesOf x ++ (textOf nameOff ++ unsigned off)))
-
--- {"data": x, "len": length, "off": 0}, and "sha": tag where there is one
-unfoldable pub firstMap : List ℕ → ℕ → List ℕ → List ℕ
-firstMap x size tag =
-    pick (eqb (length tag) 0)
-    (mapOf 3 ++ (textOf nameData ++ (bytesOf x ++ (textOf nameLen ++ (unsigned size ++ (textOf nameOff ++ unsigned 0))))))
-    (mapOf 4
-    ++ (textOf nameData
-    ++ (bytesOf x ++ (textOf nameLen ++ (unsigned size ++ (textOf nameOff ++ (unsigned 0 ++ (textOf nameSha ++ bytesOf tag))))))))
 
 -- what a writer says, in the paper's terms: a packet of so many bytes, or the refusal of this number
 pub data Told : Type 0 where
@@ -75,7 +62,7 @@ put p out =
     (pick (ltb (length out) (length p)) (unsendable out)
     (record { says = packet (length p); buffer = pasted out 0 p }))
 
--- the four requests
+-- the three requests besides an upload
 unfoldable pub writeEcho : ℕ → List ℕ → List ℕ → Outcome
 writeEcho sequence text out = put (requestPacket 0 sequence 0 (echoMap text)) out
 
@@ -84,32 +71,3 @@ writeReset sequence out = put (requestPacket 0 sequence 5 (mapOf 0)) out
 
 unfoldable pub writeErase : ℕ → List ℕ → Outcome
 writeErase sequence out = put (requestPacket 1 sequence 5 (mapOf 0)) out
-
--- a tag of this many bytes is neither absent nor of 32
-unfoldable pub oddLength : ℕ → Bool
-oddLength n = both (not (eqb n 0)) (not (eqb n 32))
-
--- a tag is
-abbrev pub misSized : List ℕ → Bool
-misSized tag = oddLength (length tag)
-
--- at offset 0: "a length of 0 or above 4,294,967,295, data longer than the length, or a tag neither absent nor of 32 bytes"
-unfoldable pub writeFirst : ℕ → List ℕ → ℕ → List ℕ → List ℕ → Outcome
-writeFirst sequence x size tag out =
-    pick (eqb size 0) (unsendable out)
-    (pick (ltb 4294967295 size) (unsendable out)
-    (pick (ltb size (length x)) (unsendable out)
-    (pick (misSized tag) (unsendable out)
-    (put (requestPacket 1 sequence 1 (firstMap x size tag)) out))))
-
--- "an offset above 4,294,967,295, empty data", then by the offset
-unfoldable pub writeUpload : ℕ → List ℕ → ℕ → ℕ → List ℕ → List ℕ → Outcome
-writeUpload sequence x off size tag out =
-    pick (ltb 4294967295 off) (unsendable out)
-    (pick (eqb (length x) 0) (unsendable out)
-    (pick (eqb off 0) (writeFirst sequence x size tag out)
-    (put (requestPacket 1 sequence 1 (laterMap x off)) out)))
-
--- "The sequence number that follows 255 is 0."
-unfoldable pub nextSequence : ℕ → ℕ
-nextSequence n = (n + 1) % 256

@@ -1,6 +1,8 @@
 // The host's calls on numbers: requests are written, and how long they are is told in 32 bits.
 ghost use mathlib.Core.Path.{_≡_};
-ghost use Rattle.host.specs.Write.{writeEcho, writeReset, writeErase, writeUpload, nextSequence};
+ghost use Rattle.host.specs.Write.{writeEcho, writeReset, writeErase};
+ghost use Rattle.uploads.specs.Upload.{writeUpload};
+ghost use Rattle.sequence.specs.Sequence.{nextSequence};
 ghost use Rattle.sizes.specs.Size.{mostData};
 ghost use Rattle.host_calls.specs.Calls.{wroteC};
 
@@ -44,7 +46,7 @@ pub fn write_upload(
     ensures { λ r. ⌜ record { result = r; out = now (out .exit); size = now (size .exit) } ≡ wroteC (now (size .entry))
         (writeUpload sequence (now («data» .entry)) off length (now (tag .entry)) (now (out .entry))) ⌝ }
 {
-    let w = host::write_upload(sequence, data, off, length, tag, out);
+    let w = uploads::write_upload(sequence, data, off, length, tag, out);
     records::told_c(w, size)
 }
 
@@ -59,5 +61,5 @@ pub fn most_data(out_len: usize, off: u64, length: u64, tag_len: usize) -> u32
 pub fn next_sequence(sequence: u8) -> u8
     ensures { λ r. ⌜ r ≡ nextSequence sequence ⌝ }
 {
-    host::next_sequence(sequence)
+    sequence::next_sequence(sequence)
 }

@@ -19,9 +19,9 @@ use Rattle.map.specs.Walk.{mapFrom}
 use Rattle.map.proofs.Laws.{walked}
 use Rattle.smp.specs.declared.Reply.{Reply as Answered}
 use Rattle.smp.specs.Reply.{rcMap, replyMap}
-use Rattle.host.specs.Write.{laterMap, firstMap}
-use Rattle.host.specs.Inner.{firstPairs}
-use Rattle.host.proofs.Writing.{later-parts, first-untagged, first-tagged}
+use Rattle.uploads.specs.Upload.{laterMap, firstMap}
+use Rattle.uploads.specs.Inner.{firstPairs}
+use Rattle.uploads.proofs.Maps.{later-parts, first-untagged, first-tagged}
 use Rattle.meant.proofs.Walking.{step-number, step-bytes, step-text, string-there, map-start, walk-over, next-part, last-part}
 
 -- "d" of an echo is the text

@@ -40,23 +40,8 @@ use Rattle.requests.specs.Request.{commandOf, mapped, echoWith, eraseWith, uplo
 use Rattle.smp.specs.Reply.{rcMap, replyMap, replyHeader, replyPacket}
 use Rattle.smp.proofs.Headers.{header-length, header-back, sized-back}
 use Rattle.smp.proofs.Writing.{text-map}
-use Rattle.host.specs.Write.{
-  requestHeader,
-  requestPacket,
-  echoMap,
-  laterMap,
-  firstMap,
-  misSized,
-  Outcome,
-  packet,
-  unsendable,
-  put,
-  writeEcho,
-  writeReset,
-  writeErase,
-  writeFirst,
-  writeUpload,
-}
+use Rattle.host.specs.Write.{requestHeader, requestPacket, echoMap, Outcome, packet, unsendable, put, writeEcho, writeReset, writeErase}
+use Rattle.uploads.specs.Upload.{laterMap, firstMap, misSized, writeFirst, writeUpload}
 use Rattle.replies.specs.Read.{reply, orZero, valuesOf, mapRead, isReply, readReply}
 use Rattle.meant.specs.Meant.{
   sent,
@@ -74,7 +59,8 @@ use Rattle.meant.specs.Meant.{
   TextIs,
   ReplyMeant,
 }
-use Rattle.host.proofs.Writing.{request-length, sent-whole, echo-length, later-length, first-length-untagged, first-length-tagged, tag-size}
+use Rattle.host.proofs.Writing.{request-length, sent-whole, echo-length}
+use Rattle.uploads.proofs.Maps.{later-length, first-length-untagged, first-length-tagged, tag-size}
 use Rattle.meant.proofs.Walking.{header-read}
 use Rattle.meant.proofs.Maps.{
   key-d,

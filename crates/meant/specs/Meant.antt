@@ -21,7 +21,8 @@ use Rattle.smp.specs.declared.Reply.{Reply as Answered}
 use Rattle.smp.specs.Packet.{headerIn}
 use Rattle.requests.specs.Request.{readRequest, isRequest}
 use Rattle.smp.specs.Reply.{replyMap, replyHeader, replyPacket, Sayable}
-use Rattle.host.specs.Write.{requestHeader, Outcome, packet, writeEcho, writeReset, writeErase, writeUpload}
+use Rattle.host.specs.Write.{requestHeader, Outcome, packet, writeEcho, writeReset, writeErase}
+use Rattle.uploads.specs.Upload.{writeUpload}
 use Rattle.replies.specs.Read.{reply, readReply}
 
 -- the packet at the start of a buffer, where a writer says that it wrote one of n bytes

@@ -6,7 +6,9 @@ ghost use Rattle.packet_calls.specs.Calls.{handledC, configuredC, readC};
 ghost use Rattle.host_calls.specs.Calls.{wroteC};
 ghost use Rattle.bench_calls.specs.Calls.{firstC, recordC, transcriptC};
 ghost use Rattle.replay.specs.Replay.{replayed};
-ghost use Rattle.host.specs.Write.{writeEcho, writeReset, writeErase, writeUpload, nextSequence};
+ghost use Rattle.host.specs.Write.{writeEcho, writeReset, writeErase};
+ghost use Rattle.uploads.specs.Upload.{writeUpload};
+ghost use Rattle.sequence.specs.Sequence.{nextSequence};
 ghost use Rattle.sizes.specs.Size.{mostData};
 
 // Takes one line: see include/belagunthi.h.

@@ -35,11 +35,11 @@ in-line line h e =
       bad = e;
       within = (omega arith, omega (arith, p .within));
       before = λ j l k.
-        let n : j - 2 + 1 ≡ j - 1 = omega arith in
-        rw (up-to line j l (omega (arith, p .within)), ← n) (p .before (j - 2) (omega arith));
+          let n : j - 2 + 1 ≡ j - 1 = omega arith in
+          rw (up-to line j l (omega (arith, p .within)), ← n) (p .before (j - 2) (omega arith));
       there = λ l b.
-        let n : placeOf (textOf line) + 2 - 1 ≡ placeOf (textOf line) + 1 = omega arith in
-        p .there (omega arith) (rw (up-to line (placeOf (textOf line) + 2) (omega arith) l, n) at b);
+          let n : placeOf (textOf line) + 2 - 1 ≡ placeOf (textOf line) + 1 = omega arith in
+          p .there (omega arith) (rw (up-to line (placeOf (textOf line) + 2) (omega arith) l, n) at b);
     }
 
 -- no other refusal has a place

@@ -1,5 +1,5 @@
 // The frame reader: one line at a time becomes "more", a packet, or one refusal.
-use base64::Decoded;
+use decoder::Decoded;
 use refusal::Refusal;
 ghost use mathlib.Core.Path.{_≡_};
 ghost use mathlib.Core.List.{List};
@@ -8,7 +8,7 @@ ghost use lib.ListN.{length, getD, take};
 ghost use Rattle.laws.specs.Bytes.{ofBe16};
 ghost use Rattle.crc.specs.Crc.{crcOf};
 ghost use Rattle.base64.specs.Base64.{decode};
-ghost use Rattle.base64.specs.Inner.{Decodes};
+ghost use Rattle.decoder.specs.Inner.{Decodes};
 ghost use Rattle.frame.specs.Line.{longest, rawMost, beginsWith, textOf};
 ghost use Rattle.reader.specs.Reader.{outcome, crcBytes, filled, waiting, completed, absorb, begin, resume, framed, placeIn, decoded};
 ghost use Rattle.reader.specs.Reader.{takeLine};
@@ -288,7 +288,7 @@ fn decode_text(line: &[u8], raw: &mut [u8]) -> Decoded
     ensures { λ r. ⌜ Decodes (textOf (now (line .entry))) (now (raw .entry)) r (now (raw .exit)) ⌝ }
 {
     let end = line.len() - 1;
-    base64::decode(&line[2..end], raw)
+    decoder::decode(&line[2..end], raw)
 }
 
 // The place in a line at which its text stops being the beginning of a well-formed one.

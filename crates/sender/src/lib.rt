@@ -141,7 +141,7 @@ fn put_text(raw: &[u8], out: &mut [u8]) -> usize
     ensures { λ r. ⌜ (r ≡ length (encode (now (raw .entry)))) × (now (out .exit) ≡ pasted (now (out .entry)) 2 (encode (now (raw .entry))))
         × (r ≤ longestText) ⌝ }
 {
-    base64::encode(raw, &mut out[2..])
+    encoder::encode(raw, &mut out[2..])
 }
 
 // Frame k's line with these raw bytes goes to the start of out; gives its length.

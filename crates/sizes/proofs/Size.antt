@@ -14,26 +14,8 @@ use Rattle.laws.proofs.Choice.{pick-yes, pick-no, pick-same, pick-case, both-ye
 use Rattle.cbor.specs.Write.{headLen, mapOf}
 use Rattle.cbor.proofs.Laws.{head-size, head-long, form-tiny, form-one, form-two}
 use Rattle.smp.proofs.Writing.{head-tiny}
-use Rattle.host.specs.Write.{
-  requestPacket,
-  echoMap,
-  laterMap,
-  firstMap,
-  oddLength,
-  misSized,
-  Told,
-  Outcome,
-  packet,
-  refused,
-  unsendable,
-  sendable,
-  put,
-  writeEcho,
-  writeReset,
-  writeErase,
-  writeFirst,
-  writeUpload,
-}
+use Rattle.host.specs.Write.{requestPacket, echoMap, Told, Outcome, packet, refused, unsendable, sendable, put, writeEcho, writeReset, writeErase}
+use Rattle.uploads.specs.Upload.{laterMap, firstMap, oddLength, misSized, writeFirst, writeUpload}
 use Rattle.sizes.specs.Size.{
   toldOf,
   echoSize,
@@ -49,18 +31,8 @@ use Rattle.sizes.specs.Size.{
   EraseSaid,
   UploadSaid,
 }
-use Rattle.host.proofs.Writing.{
-  request-length,
-  put-over,
-  put-long,
-  put-whole,
-  sendable-fits,
-  echo-length,
-  later-length,
-  first-length-untagged,
-  first-length-tagged,
-  tag-size,
-}
+use Rattle.host.proofs.Writing.{request-length, put-over, put-long, put-whole, sendable-fits, echo-length}
+use Rattle.uploads.proofs.Maps.{later-length, first-length-untagged, first-length-tagged, tag-size}
 
 -- the most data in up to 24 bytes: its head is one byte
 pub most-tiny : (left : ℕ) → left ≤ 24 → mostIn left ≡ left - 1

@@ -7,7 +7,8 @@ use lib.Dec.{ltb, leb, eqb}
 use lib.ListN.{length}
 use Rattle.laws.specs.Choice.{pick, both}
 use Rattle.cbor.specs.Write.{headLen}
-use Rattle.host.specs.Write.{Told, packet, refused, sendable, oddLength, writeEcho, writeReset, writeErase, writeUpload}
+use Rattle.host.specs.Write.{Told, packet, refused, sendable, writeEcho, writeReset, writeErase}
+use Rattle.uploads.specs.Upload.{oddLength, writeUpload}
 
 -- what is said of a packet of this many bytes: it is written, or refused 12
 abbrev pub toldOf : ℕ → ℕ → Told

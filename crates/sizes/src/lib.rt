@@ -54,7 +54,7 @@ fn most_first(room: usize, size: u64, tag_len: usize) -> usize
     if 4294967295 < size {
         return NO_DATA;
     }
-    if host::is_mis_sized(tag_len) {
+    if uploads::is_mis_sized(tag_len) {
         return NO_DATA;
     }
     let most = most_past(room, first_over(size, tag_len));

@@ -25,7 +25,7 @@ use Rattle.requests.specs.Request.{commandOf, mapped, echoWith, requestOf, isRe
 use Rattle.smp.specs.Reply.{replyMap, replyPacket, replyBytes}
 use Rattle.controller.specs.Doing.{actFor, responseFor, responseMap, asksReset}
 use Rattle.controller.specs.Handle.{asked, taking, actBy, bytesBy, saidBy, handled}
-use Rattle.host.specs.Write.{laterMap}
+use Rattle.uploads.specs.Upload.{laterMap}
 use Rattle.starred.specs.Table.{Row, planned, starred, allRight}
 
 -- the test passes

@@ -19,7 +19,7 @@ use Rattle.rules.specs.Plan.{planOf}
 use Rattle.smp.specs.declared.Reply.{Reply}
 use Rattle.smp.specs.Reply.{replyMap}
 use Rattle.controller.specs.Handle.{handle}
-use Rattle.host.specs.Write.{laterMap}
+use Rattle.uploads.specs.Upload.{laterMap}
 
 -- one case
 pub record Row : Type 0 where

@@ -1,6 +1,6 @@
 // Runs the published CRC and Base64 vectors through the proved functions and writes what they give, a line each. What is written is
 // compared with the file stdout beside src/, which has the published values.
-use base64::Decoded;
+use decoder::Decoded;
 ghost use Prim.Native.Nat.{_≤_};
 ghost use lib.ListN.{length};
 
@@ -18,7 +18,7 @@ fn text_of(raw: &[u8])
     requires { ⌜ length (now raw) ≤ 9 ⌝ }
 {
     let mut text = [0u8; 12];
-    let n = base64::encode(raw, &mut text);
+    let n = encoder::encode(raw, &mut text);
     io::write_all(1, b"base64 ");
     io::write_all(1, raw);
     io::write_all(1, b" ");
@@ -34,7 +34,7 @@ fn bytes_of(text: &[u8])
     requires { ⌜ length (now text) ≤ 12 ⌝ }
 {
     let mut raw = [0u8; 9];
-    match base64::decode(text, &mut raw) {
+    match decoder::decode(text, &mut raw) {
         Decoded::Bytes(n) => {
             if n <= 9 {
                 io::write_all(1, b" back ");

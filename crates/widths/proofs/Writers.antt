@@ -15,7 +15,8 @@ use Rattle.sender.specs.Sender as sending
 use Rattle.sender.specs.Sender.{frameCount, pieceOf, frameOf, sendable, sendFrame}
 use Rattle.sender.proofs.Count.{count-most}
 use Rattle.sender.proofs.Laws.{piece-length, text-room}
-use Rattle.host.specs.Write.{Outcome, packet, unsendable, put, misSized, writeEcho, writeReset, writeErase, writeFirst, writeUpload}
+use Rattle.host.specs.Write.{Outcome, packet, unsendable, put, writeEcho, writeReset, writeErase}
+use Rattle.uploads.specs.Upload.{misSized, writeFirst, writeUpload}
 
 -- a packet that was told is of at most 65,533 bytes
 abbrev pub Small : Outcome → Type 0

@@ -7,7 +7,7 @@ use Prim.Native.Nat.{ℕ, _*_, _/_, _≤_}
 use native.Mathlib.Omega.{arith}
 use lib.ListN.{length, take, replicate, length-take}
 use Rattle.base64.specs.Base64.{decode}
-use Rattle.base64.proofs.Answer.{decodes-bad, decodes-good}
+use Rattle.decoder.proofs.Answer.{decodes-bad, decodes-good}
 use Rattle.frame.specs.Line.{rawMost, textOf}
 use Rattle.reader.specs.declared.Reader.the-variants.{Idle}
 use Rattle.reader.specs.Reader.{badText, placeIn}

@@ -85,8 +85,11 @@ store-reader-requires-4 c κs =
 
 cast-place : tie.Need-cast-place
 cast-place c =
-    omega (arith, subst (λ (x : Answer). SmallBy (said x) (c .before .before .before .before .before .args .taken .reader))
-    (c .before .before .before .answer3 .given .1) (c .before .before .before .before .before .pre) .0)
+    omega (
+      arith,
+      subst (λ (x : Answer). SmallBy (said x) (c .before .before .before .before .before .args .taken .reader))
+          (c .before .before .before .answer3 .given .1) (c .before .before .before .before .before .pre) .0,
+    )
 
 number-requires-2 : tie.Need-number-requires-2
 number-requires-2 c κs = search needs
