@@ -22,7 +22,7 @@
  * else. No call takes more than BG_STACK bytes of stack, but bg_replay, which takes at most BG_BENCH_STACK; measured on x86-64,
  * without what memcpy and memset take:
  *   bg_collect           408
- *   bg_take_line        1056
+ *   bg_take_line        1072
  *   bg_send_frame        768
  *   bg_configure           8
  *   bg_handle            640
@@ -35,7 +35,7 @@
  *   bg_next_sequence       8
  *   bg_first_record       56
  *   bg_next_record         0
- *   bg_replay           1344
+ *   bg_replay           1360
  *   bg_write_transcript  136
  */
 #ifndef BELAGUNTHI_H

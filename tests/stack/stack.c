@@ -301,7 +301,7 @@ int main(void) {
         return 2;
     }
     fine &= within("bg_replay", replay, base);
-    if (text_len + 1 != recorded || answers[BG_ANSWER * (text_len - 1)] != BG_BAD_TEXT || answers[BG_ANSWER * text_len - 1] != line_len - 2) {
+    if (text_len + 1 != recorded || answers[BG_ANSWER * (text_len - 1)] != BG_BAD_TEXT || answers[BG_ANSWER * text_len - 1] != line_len - 3) {
         return 2;
     }
     fine &= within("bg_write_transcript", write_transcript, base);

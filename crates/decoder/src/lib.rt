@@ -32,14 +32,14 @@ const VALUES: [u8; 256] = *b"\
     ";
 
 // The table of the numbers.
-fn values() -> [u8; 256]
+pub fn values() -> [u8; 256]
     ensures { λ r. ⌜ Values r ⌝ }
 {
     VALUES
 }
 
 // The number that a character stands for, 64 where it stands for none.
-fn look(table: &[u8; 256], c: u8) -> u8
+pub fn look(table: &[u8; 256], c: u8) -> u8
     requires { ⌜ Values (now table) ⌝ }
     ensures { λ r. ⌜ r ≡ value c ⌝ }
 {

@@ -10,12 +10,12 @@ use mathlib.Core.List.{List, [], _∷_, _++_}
 use lib.Dec.{eqb}
 use lib.ListN.{length, getD, take, drop, take-append-drop, List·getD-eq-default, drop-of-length-le}
 use lib.Seq.{take-take, getD-drop, drop-drop}
-use borrow.Author.Tests.{eqb-true, ne-eqb}
-use Rattle.laws.specs.Choice.{pick, both}
+use borrow.Author.Tests.{ne-eqb}
+use Rattle.laws.specs.Choice.{pick}
 use Rattle.laws.proofs.Choice.{pick-yes, pick-no, pick-case, both-last-no}
 use Rattle.base64.specs.Base64.{value, known, pad, full}
 use Rattle.fault.specs.Fault.{Begins, Place, thirdStands, fourthStands, standing, placeOf, PlaceIs, PlaceOnce}
-use Rattle.fault.proofs.Group.{Stands, pad-unknown, none-known, full-stands, stands-full, of-first, of-second, of-third, of-fourth, of-fifth}
+use Rattle.fault.proofs.Group.{Stands, none-known, full-stands, stands-full, of-first, of-second, of-third, of-fourth, of-fifth}
 use Rattle.fault.proofs.Group.{shorter, can-none, can-one, can-two, can-three, can-four, can-after, of-after}
 
 -- a place, by the characters before it and the one there

@@ -1,48 +1,18 @@
 // Where a text stops being the beginning of well-formed Base64. The decoder says that a text is not well formed, this function where: it is
-// called for such texts alone, and needs no table.
+// called for such texts alone.
 ghost use mathlib.Core.Path.{_≡_};
-ghost use Rattle.base64.specs.Base64.{value};
+ghost use Rattle.decoder.specs.Inner.{Values};
 ghost use Rattle.fault.specs.Fault.{Place, standing};
 
-// The number that a character stands for, 64 where it stands for none.
-fn number(c: u8) -> u8
-    ensures { λ r. ⌜ r ≡ value c ⌝ }
-{
-    if c >= b'a' {
-        if c <= b'z' {
-            return c - 71;
-        }
-        return 64;
-    }
-    if c >= b'A' {
-        if c <= b'Z' {
-            return c - 65;
-        }
-        return 64;
-    }
-    if c >= b'0' {
-        if c <= b'9' {
-            return c + 4;
-        }
-        return 64;
-    }
-    if c == b'+' {
-        return 62;
-    }
-    if c == b'/' {
-        return 63;
-    }
-    64
-}
-
 // How many characters of a group of four can stand there, each after those before it; 0 is a missing one.
-fn standing(a: u8, b: u8, c: u8, d: u8) -> usize
+fn standing(table: &[u8; 256], a: u8, b: u8, c: u8, d: u8) -> usize
+    requires { ⌜ Values (now table) ⌝ }
     ensures { λ r. ⌜ r ≡ standing a b c d ⌝ }
 {
-    if number(a) >= 64 {
+    if decoder::look(table, a) >= 64 {
         return 0;
     }
-    let q = number(b);
+    let q = decoder::look(table, b);
     if q >= 64 {
         return 1;
     }
@@ -55,7 +25,7 @@ fn standing(a: u8, b: u8, c: u8, d: u8) -> usize
         }
         return 4;
     }
-    let r = number(c);
+    let r = decoder::look(table, c);
     if r >= 64 {
         return 2;
     }
@@ -65,7 +35,7 @@ fn standing(a: u8, b: u8, c: u8, d: u8) -> usize
         }
         return 4;
     }
-    if number(d) >= 64 {
+    if decoder::look(table, d) >= 64 {
         return 3;
     }
     4
@@ -75,6 +45,7 @@ fn standing(a: u8, b: u8, c: u8, d: u8) -> usize
 pub fn place(text: &[u8]) -> usize
     ensures { λ r. ⌜ Place (now (text .entry)) r ⌝ }
 {
+    let table = decoder::values();
     let n = text.len();
     let mut i = 0;
     while i < n {
@@ -82,7 +53,7 @@ pub fn place(text: &[u8]) -> usize
         let b = laws::byte_at(text, i + 1);
         let c = laws::byte_at(text, i + 2);
         let d = laws::byte_at(text, i + 3);
-        let k = standing(a, b, c, d);
+        let k = standing(&table, a, b, c, d);
         if k < 4 {
             return i + k;
         }

@@ -2,17 +2,15 @@
 -- own refusals to their answers, and nothing else.
 -- Assumes nothing.
 use mathlib.Core.Path.{_≡_, refl, ap, ap₂, _∙_}
-use Prim.Native.Nat.{ℕ, _+_, _-_}
+use Prim.Native.Nat.{ℕ, _+_}
 use native.Mathlib.Omega.{arith}
 use mathlib.Core.Bool.{Bool, true, false, not}
 use mathlib.Core.List.{List, [], _∷_}
 use mathlib.Core.Logic.{_⊎_, inl, inr}
 use mathlib.Core.Option.{Option, none, some}
 use lib.Dec.{ltb}
-use lib.ListN.{length, drop}
+use lib.ListN.{length}
 use Rattle.laws.specs.Choice.{pick}
-use Rattle.laws.specs.Bytes.{ofBe16}
-use Rattle.laws.proofs.Choice.{pick-case}
 use Rattle.base64.specs.Base64.{decode}
 use Rattle.frame.specs.Line.{longest, initial, partial, beginsWith, ended, textOf}
 use Rattle.reader.specs.declared.Reader.{Reader}

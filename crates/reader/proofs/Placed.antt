@@ -12,7 +12,7 @@ use lib.Seq.{take-take}
 use borrow.Author.Tests.{ltb-false}
 use Rattle.laws.proofs.Choice.{pick-case}
 use Rattle.base64.specs.Base64.{decode}
-use Rattle.fault.specs.Fault.{Begins, Place, placeOf}
+use Rattle.fault.specs.Fault.{Place, placeOf}
 use Rattle.fault.proofs.Places.{place-is}
 use Rattle.frame.specs.Line.{textOf}
 use Rattle.reader.specs.declared.Reader.{Reader}

@@ -9,16 +9,15 @@ use Rattle.fault.proofs.Places.{turn-in, turn-behind, turn-on, turned}
 use borrow.Author.Needs.{needs}
 use Rattle.fault.proofs.place.Statement.{statement}
 use Rattle.fault.proofs.place.Tie as tie
-use Rattle.fault.proofs.place.Reads as reads
-use Rattle.fault.proofs.place.Lts as lts
-use Rattle.fault.proofs.standing.Reads as standing-reads
-use Rattle.laws.proofs.byte_at.Reads as byte-at-reads
 
 abbrev Inv-loop : tie.InvT-loop
-Inv-loop text n i₀ i = (i ≤ length text) × (placeOf (drop i text) + i ≡ placeOf text)
+Inv-loop text table n i₀ i = (i ≤ length text) × (placeOf (drop i text) + i ≡ placeOf text)
 
 abbrev μ-loop : tie.MeasureT-loop
-μ-loop text n i₀ i = length text - i
+μ-loop text table n i₀ i = length text - i
+
+values-requires : tie.Need-values-requires Inv-loop μ-loop
+values-requires c κs = search needs
 
 loop-holds : tie.Need-loop-holds Inv-loop μ-loop
 loop-holds c = (omega arith, omega arith)
@@ -45,19 +44,19 @@ byte-at-requires-3 : tie.Need-byte-at-requires-3 Inv-loop μ-loop
 byte-at-requires-3 c κs = search needs
 
 standing-requires : tie.Need-standing-requires Inv-loop μ-loop
-standing-requires c κs = search needs
+standing-requires c κs = c .before .before .before .before .before .before .before .values .ensures
 
 add-result : tie.Need-add-result Inv-loop μ-loop
 add-result c = search needs
 
 returns : tie.Need-returns Inv-loop μ-loop
-returns c = turn-in (c .before .before .before .before .before .before .before .before .before .args .text .now) (c .before .before .before .before .before .before .before .loop .i) _ _ _ _ (c .before .standing .result) refl (c .before .before .before .before .byte-at .ensures) (c .before .before .before .byte-at2 .ensures) (c .before .before .byte-at3 .ensures) (c .before .standing .ensures) (c .before .before .before .before .before .before .before .loop .inv .1) (c .if1 .taken)
+returns c = turn-in (c .before .before .before .before .before .before .before .before .before .before .before .args .text .now) (c .before .before .before .before .before .before .before .before .loop .i) _ _ _ _ (c .before .standing .result) refl (c .before .before .before .before .before .byte-at .ensures) (c .before .before .before .before .byte-at2 .ensures) (c .before .before .before .byte-at3 .ensures) (c .before .standing .ensures) (c .before .before .before .before .before .before .before .before .loop .inv .1) (c .if1 .taken)
 
 add-result-2 : tie.Need-add-result-2 Inv-loop μ-loop
 add-result-2 c = search needs
 
 returns-2 : tie.Need-returns-2 Inv-loop μ-loop
-returns-2 c = turn-behind (c .before .before .before .before .before .before .before .before .before .before .args .text .now) (c .before .before .before .before .before .before .before .before .loop .i) _ _ _ _ (c .before .before .standing .result) refl (c .before .before .before .before .before .byte-at .ensures) (c .before .before .before .before .byte-at2 .ensures) (c .before .before .before .byte-at3 .ensures) (c .before .before .standing .ensures) (c .before .before .before .before .before .before .before .before .loop .inv .1) (c .before .if1 .left) (c .if2 .taken)
+returns-2 c = turn-behind (c .before .before .before .before .before .before .before .before .before .before .before .before .args .text .now) (c .before .before .before .before .before .before .before .before .before .loop .i) _ _ _ _ (c .before .before .standing .result) refl (c .before .before .before .before .before .before .byte-at .ensures) (c .before .before .before .before .before .byte-at2 .ensures) (c .before .before .before .before .byte-at3 .ensures) (c .before .before .standing .ensures) (c .before .before .before .before .before .before .before .before .before .loop .inv .1) (c .before .if1 .left) (c .if2 .taken)
 
 add-i : tie.Need-add-i Inv-loop μ-loop
 add-i c = search needs
@@ -66,7 +65,7 @@ loop-less : tie.Need-loop-less Inv-loop μ-loop
 loop-less c = omega arith
 
 loop-again : tie.Need-loop-again Inv-loop μ-loop
-loop-again c = turn-on (c .before .before .before .before .before .before .before .before .before .before .args .text .now) (c .before .before .before .before .before .before .before .before .loop .i) _ _ _ _ (c .before .before .standing .result) refl (c .before .before .before .before .before .byte-at .ensures) (c .before .before .before .before .byte-at2 .ensures) (c .before .before .before .byte-at3 .ensures) (c .before .before .standing .ensures) (c .before .before .before .before .before .before .before .before .loop .inv .1) (c .before .if1 .left) (c .if2 .left)
+loop-again c = turn-on (c .before .before .before .before .before .before .before .before .before .before .before .before .args .text .now) (c .before .before .before .before .before .before .before .before .before .loop .i) _ _ _ _ (c .before .before .standing .result) refl (c .before .before .before .before .before .before .byte-at .ensures) (c .before .before .before .before .before .byte-at2 .ensures) (c .before .before .before .before .byte-at3 .ensures) (c .before .before .standing .ensures) (c .before .before .before .before .before .before .before .before .before .loop .inv .1) (c .before .if1 .left) (c .if2 .left)
 
 returns-3 : tie.Need-returns-3 Inv-loop μ-loop
 returns-3 c = turned _ _ (c .loop-test .left) (c .before .loop .inv .0) (c .before .loop .inv .1)
@@ -77,6 +76,7 @@ place-spec =
     (tie.spec
     Inv-loop
     μ-loop
+    values-requires
     loop-holds
     shared-slice-read-a
     add-byte-at
