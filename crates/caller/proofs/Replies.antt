@@ -8,9 +8,9 @@ use native.Mathlib.Omega.{arith}
 use lib.Dec.{lit<}
 use lib.ListN.{length, getD}
 use Rattle.laws.proofs.Choice.{pick-case}
-use Rattle.map.specs.declared.Kind.{Kind}
-use Rattle.map.specs.declared.Key.{Key}
-use Rattle.map.specs.Fields.{indexOf, numberIn, runIn}
+use Rattle.fields.specs.declared.Kind.{Kind}
+use Rattle.fields.specs.declared.Key.{Key}
+use Rattle.fields.specs.Fields.{indexOf, numberIn, runIn}
 use Rattle.map.specs.Walk.{mapFrom}
 use Rattle.map.proofs.Sound.{map-run}
 use Rattle.rules.specs.Plan.{above, largest}

@@ -16,7 +16,7 @@ use Rattle.laws.proofs.Lists.{pasted-start}
 use Rattle.cbor.specs.Inner.{Put}
 use Rattle.cbor.specs.Write.{headOf, textOf, mapOf}
 use Rattle.cbor.proofs.Laws.{head-length, head-long, len-most}
-use Rattle.map.specs.Keys.{nameD}
+use Rattle.fields.specs.Keys.{nameD}
 use Rattle.smp.specs.Packet.{headerBytes}
 use Rattle.smp.proofs.Headers.{header-length}
 use Rattle.smp.proofs.Writing.{pasted-front, head-tiny}

@@ -10,7 +10,7 @@ use Rattle.laws.specs.Choice.{pick, both}
 use Rattle.laws.specs.Bytes.{pasted}
 use Rattle.refusal.specs.Number.{numberOf}
 use Rattle.cbor.specs.Write.{textOf, mapOf}
-use Rattle.map.specs.Keys.{nameD}
+use Rattle.fields.specs.Keys.{nameD}
 use Rattle.smp.specs.declared.Header.{Header}
 use Rattle.smp.specs.Packet.{headerBytes}
 use Rattle.host.specs.declared.Written.{Written}

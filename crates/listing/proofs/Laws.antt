@@ -15,7 +15,7 @@ use Rattle.decimal.specs.Decimal.{digitCount}
 use Rattle.decimal.proofs.Laws.{digits-length, count-most, byte-digits}
 use Rattle.cbor.specs.Write.{headOf, unsigned, bytesOf, textOf, mapOf}
 use Rattle.cbor.proofs.Laws.{head-size, form-one}
-use Rattle.map.specs.Keys.{nameSlot}
+use Rattle.fields.specs.Keys.{nameSlot}
 use Rattle.session.specs.declared.Slot.{Slot}
 use Rattle.session.specs.declared.Layout.{Layout}
 use Rattle.slot.specs.History.{slotIn}

@@ -4,7 +4,7 @@ use Prim.Native.Nat.{ℕ, _+_}
 use mathlib.Core.List.{List, _++_}
 use lib.ListN.{length}
 use Rattle.cbor.specs.Write.{unsigned, textOf, mapOf}
-use Rattle.map.specs.Keys.{nameSlot}
+use Rattle.fields.specs.Keys.{nameSlot}
 use Rattle.images.specs.declared.Image.{Image}
 use Rattle.listing.specs.Listing.{nameImages, nameVersion, versionText, arrayOf}
 

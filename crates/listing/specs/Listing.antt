@@ -8,7 +8,7 @@ use Rattle.laws.specs.Bytes.{Bytes}
 use Rattle.laws.specs.Parts.{partOf}
 use Rattle.decimal.specs.Decimal.{decimal}
 use Rattle.cbor.specs.Write.{headOf, unsigned, bytesOf, textOf, mapOf}
-use Rattle.map.specs.Keys.{nameSlot}
+use Rattle.fields.specs.Keys.{nameSlot}
 use Rattle.session.specs.declared.Slot.{Slot}
 use Rattle.session.specs.declared.Layout.{Layout}
 use Rattle.slot.specs.History.{slotIn}

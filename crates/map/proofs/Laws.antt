@@ -17,9 +17,9 @@ use Rattle.cbor.specs.declared.Item.{Item}
 use Rattle.cbor.specs.Read.{headAt, itemAt}
 use Rattle.cbor.specs.Write.{headOf, unsigned, bytesOf, textOf, mapOf}
 use Rattle.cbor.proofs.Laws.{head-back, head-size, unsigned-back, bytes-back, text-back, sizeOf}
-use Rattle.map.specs.declared.Kind.{Kind}
-use Rattle.map.specs.Keys.{keyOf, typeOf, typeFor}
-use Rattle.map.specs.Fields.{placeOf, nothing, stored}
+use Rattle.fields.specs.declared.Kind.{Kind}
+use Rattle.fields.specs.Keys.{keyOf, typeOf, typeFor}
+use Rattle.fields.specs.Fields.{placeOf, nothing, stored}
 use Rattle.map.specs.Walk.{Found, upTo, valued, pairAt, andThen, pairs, endingAt, mapFrom}
 use Rattle.map.proofs.Ways.{value-is, enter-field, pair-whole, map-pairs}
 

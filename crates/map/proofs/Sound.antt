@@ -1,29 +1,26 @@
 -- Every string among the fields of a map that was read lies within the bytes that it was read from.
 -- Assumes nothing.
-use mathlib.Core.Path.{_≡_, refl}
+use mathlib.Core.Path.{_≡_}
 use mathlib.Core.Bool.{not}
 use mathlib.Core.List.{List}
 use mathlib.Core.Option.{Option, none, some}
-use Prim.Native.Nat.{ℕ, zero, suc, _+_, _*_, _-_, _≤_, _<_}
-use native.Mathlib.Decide.{decLe}
-use native.Mathlib.Omega.{arith}
+use Prim.Native.Nat.{ℕ, zero, suc, _+_, _-_, _<_}
 use lib.Dec.{ltb, eqb}
-use lib.ListN.{length, getD, set, take, drop, length-set}
+use lib.ListN.{length, take, drop}
 use borrow.Author.Tests.{eqb-true, not-false}
 use Rattle.laws.specs.Parts.{Within}
 use Rattle.laws.proofs.Choice.{pick-case}
 use Rattle.cbor.specs.declared.Value.{Value}
-use Rattle.cbor.specs.declared.Value.the-variants.{Unsigned, Negative, Bytes, Text, Flag, Null}
 use Rattle.cbor.specs.declared.Head.{Head}
 use Rattle.cbor.specs.declared.Item.{Item}
 use Rattle.cbor.specs.Read.{headAt, itemAt}
 use Rattle.cbor.specs.Inner.{Inside, ItemWithin}
 use Rattle.cbor.proofs.Laws.{item-within}
-use Rattle.map.specs.declared.Kind.{Kind}
-use Rattle.map.specs.declared.Key.{Key}
-use Rattle.map.specs.Keys.{keyOf, typeOf, typeFor, listed}
-use Rattle.map.specs.Fields.{indexOf, placeOf, nothing, there, firstOf, secondOf, stored, runIn}
-use Rattle.map.proofs.Fields.{key-index, three-second, three-third, three-other}
+use Rattle.fields.specs.declared.Kind.{Kind}
+use Rattle.fields.specs.declared.Key.{Key}
+use Rattle.fields.specs.Keys.{keyOf, typeOf, typeFor, listed}
+use Rattle.fields.specs.Fields.{indexOf, nothing, there, runIn}
+use Rattle.fields.proofs.Sound.{Sound, nothing-sound, stored-sound, run-sound}
 use Rattle.map.specs.Walk.{
   Found,
   malformed,
@@ -40,80 +37,10 @@ use Rattle.map.specs.Walk.{
   mapFrom,
 }
 
--- the fields of the keys that hold strings, which are the first three, name parts of s
-record Sound (s f : List ℕ) : Type 0 where
-  size : length f ≡ 30
-  inside : (i : ℕ) → i < 3 → getD f (3 * i + 1) 0 + getD f (3 * i + 2) 0 ≤ length s
-
 -- of what reading comes to
 unfoldable FoundSound : List ℕ → Found → Type 0
 FoundSound s malformed = Unit {0}
 FoundSound s (upTo at f) = Sound s f
-
--- nothing has been read
-nothing-sound : (s : List ℕ) → Sound s nothing
-nothing-sound s = record { size = refl; inside = each }
-  where
-    each : (i : ℕ) → i < 3 → getD nothing (3 * i + 1) 0 + getD nothing (3 * i + 2) 0 ≤ length s
-    each zero h = omega arith
-    each (suc zero) h = omega arith
-    each (suc (suc zero)) h = omega arith
-    each (suc (suc (suc i))) h = absurd (omega arith)
-
--- a key that holds a string has its type, and a value of that type is a part of s
-string-inside : (s : List ℕ) (v : Value) (t : ℕ) → 2 ≤ t → t ≤ 3 → typeOf v ≡ t → Inside s v → firstOf v + secondOf v ≤ length s
-unfolding typeOf firstOf secondOf
-string-inside s (Unsigned n) t a b e h = absurd (omega arith)
-string-inside s (Negative n) t a b e h = absurd (omega arith)
-string-inside s (Bytes start len) t a b e h = h
-string-inside s (Text start len) t a b e h = h
-string-inside s (Flag x) t a b e h = absurd (omega arith)
-string-inside s Null t a b e h = absurd (omega arith)
-
--- the first three keys hold strings
-string-key : (k : Key) → indexOf k < 3 → (2 ≤ typeFor k) × (typeFor k ≤ 3)
-unfolding indexOf typeFor
-string-key Key.Text h = (omega arith, omega arith)
-string-key Key.Data h = (omega arith, omega arith)
-string-key Key.Sha h = (omega arith, omega arith)
-string-key Key.Off h = absurd (omega arith)
-string-key Key.Len h = absurd (omega arith)
-string-key Key.Image h = absurd (omega arith)
-string-key Key.Upgrade h = absurd (omega arith)
-string-key Key.Slot h = absurd (omega arith)
-string-key Key.Rc h = absurd (omega arith)
-string-key Key.Other h = absurd (omega arith)
-
--- a value stored under a key of its type
-stored-sound : (s f : List ℕ) (k : Key) (v : Value) → typeOf v ≡ typeFor k → Inside s v → Sound s f → Sound s (stored k v f)
-unfolding stored
-stored-sound s f k v type within o =
-    record {
-      size = simp length-set (o .size);
-      inside = λ i h. elim (decLe i (indexOf k)) [
-        | yes a ↦ elim (decLe (indexOf k) i) [
-          | yes b ↦
-              let same : i ≡ indexOf k = omega arith in
-              let room : placeOf k + 2 < length f = omega (arith, key-index k, o .size) in
-              let small : indexOf k < 3 = omega arith in
-              rw (same, three-second f (placeOf k) (firstOf v) (secondOf v) room, three-third f (placeOf k) (firstOf v) (secondOf v) room)
-              (string-inside s v (typeFor k) (string-key k small .0) (string-key k small .1) type within)
-          | no b ↦ beside i h (λ e. omega arith)
-        ]
-        | no a ↦ beside i h (λ e. omega arith)
-      ];
-    }
-  where
-    beside : (i : ℕ) → i < 3 → (i ≡ indexOf k → ⊥)
-        → getD (set (set (set f (placeOf k) 1) (placeOf k + 1) (firstOf v)) (placeOf k + 2) (secondOf v)) (3 * i + 1) 0
-        + getD (set (set (set f (placeOf k) 1) (placeOf k + 1) (firstOf v)) (placeOf k + 2) (secondOf v)) (3 * i + 2) 0
-        ≤ length s
-    beside i h e =
-        rw (
-          three-other f (placeOf k) (firstOf v) (secondOf v) (3 * i + 1) (λ p. e (omega arith)) (λ p. e (omega arith)) (λ p. e (omega arith)),
-          three-other f (placeOf k) (firstOf v) (secondOf v) (3 * i + 2) (λ p. e (omega arith)) (λ p. e (omega arith)) (λ p. e (omega arith)),
-        )
-        (o .inside i h)
 
 -- a pair
 entered-sound : (s f : List ℕ) (k : Key) (v : Value) (next : ℕ) → Inside s v → Sound s f → FoundSound s (entered k v next f)
@@ -173,10 +100,6 @@ map-sound kind s from =
     (λ h. ending-sound s (length s) (mapAt kind s from nothing) (after-sound kind s nothing (headAt s from) (nothing-sound s)))
 
 -- the string under a key of a map that was read lies within its bytes
-run-sound : (s f : List ℕ) (k : Key) → indexOf k < 3 → Sound s f → Within s (runIn f k)
-unfolding runIn
-run-sound s f k h o = pick-case (Within s) (there k f) _ _ (λ t. o .inside (indexOf k) h) (λ t. tt)
-
 pub map-run : (kind : Kind) (s : List ℕ) (from : ℕ) (f : List ℕ) → mapFrom kind s from ≡ some f → (k : Key) → indexOf k < 3 → Within s (runIn f k)
 unfolding MapSound
 map-run kind s from f e k h = run-sound s f k h (rw e at (map-sound kind s from))

@@ -7,20 +7,18 @@ use mathlib.Core.Option.{Option, none, some}
 use Prim.Native.Nat.{ℕ, suc, _+_, _-_, _≤_, _<_}
 use native.Mathlib.Omega.{arith}
 use lib.Dec.{eqb}
-use lib.ListN.{length, getD, set, take, drop}
+use lib.ListN.{length, getD, take, drop}
 use borrow.Author.Tests.{le-ltb, lt-ltb, eq-eqb, ne-eqb}
-use Rattle.laws.specs.declared.Number.{Number}
-use Rattle.laws.specs.declared.Run.{Run}
 use Rattle.laws.proofs.Choice.{pick-yes, pick-no}
 use Rattle.cbor.specs.declared.Value.{Value}
 use Rattle.cbor.specs.declared.Head.{Head}
 use Rattle.cbor.specs.declared.Item.{Item}
 use Rattle.cbor.specs.Read.{headAt, itemAt}
-use Rattle.map.specs.declared.Kind.{Kind}
-use Rattle.map.specs.declared.Key.{Key}
+use Rattle.fields.specs.declared.Kind.{Kind}
+use Rattle.fields.specs.declared.Key.{Key}
 use Rattle.map.specs.declared.Walked.{Walked}
-use Rattle.map.specs.Keys.{keyOf, typeOf, typeFor}
-use Rattle.map.specs.Fields.{placeOf, nothing, stored, firstOf, secondOf, numberIn, runIn, flagIn}
+use Rattle.fields.specs.Keys.{keyOf, typeOf, typeFor}
+use Rattle.fields.specs.Fields.{placeOf, nothing, stored}
 use Rattle.map.specs.Walk.{
   Found,
   malformed,
@@ -202,39 +200,3 @@ module _ (kind : Kind) (s : List ℕ) (from : ℕ) (h : length s ≡ from → �
       ends : (b : Bool) → eqb at (length s) ≡ b → Reads (endingAt (length s) (upTo at f)) b f
       ends true g = reads-map (simp (g, pick-yes))
       ends false g = reads-bad (simp (g, pick-no))
-
--- what stands under a key, where its three numbers begin at a place: nothing, or what they say
-module _ (f : List ℕ) (k : Key) (at : ℕ) (e : at ≡ placeOf k) where
-  absent : getD f at 0 ≡ 0 → eqb (getD f (placeOf k) 0) 0 ≡ true
-  absent h = eq-eqb _ _ (rw e at h)
-
-  present : (getD f at 0 ≡ 0 → ⊥) → eqb (getD f (placeOf k) 0) 0 ≡ false
-  present h = ne-eqb _ _ (rw e at h)
-
-  pub number-absent : getD f at 0 ≡ 0 → Number.Absent ≡ numberIn f k
-  unfolding numberIn
-  number-absent h = simp (absent h, pick-no)
-
-  pub number-is : (getD f at 0 ≡ 0 → ⊥) → Number.Is (getD f (at + 1) 0) ≡ numberIn f k
-  unfolding numberIn
-  number-is h = rw e (simp (present h, pick-yes))
-
-  pub run-absent : getD f at 0 ≡ 0 → Run.Absent ≡ runIn f k
-  unfolding runIn
-  run-absent h = simp (absent h, pick-no)
-
-  pub run-is : (getD f at 0 ≡ 0 → ⊥) → Run.At (getD f (at + 1) 0) (getD f (at + 2) 0) ≡ runIn f k
-  unfolding runIn
-  run-is h = rw e (simp (present h, pick-yes))
-
-  pub flag-absent : getD f at 0 ≡ 0 → false ≡ flagIn f k
-  unfolding flagIn
-  flag-absent h = simp (absent h, pick-no)
-
-  pub flag-is : (getD f at 0 ≡ 0 → ⊥) → eqb (getD f (at + 1) 0) 1 ≡ flagIn f k
-  unfolding flagIn
-  flag-is h = rw e (simp (present h, pick-yes))
-
-  pub stored-is : (v : Value) (x y : ℕ) → x ≡ firstOf v → y ≡ secondOf v → set (set (set f at 1) (at + 1) x) (at + 2) y ≡ stored k v f
-  unfolding stored
-  stored-is v x y p q = rw (e, p, q)

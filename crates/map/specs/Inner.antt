@@ -6,16 +6,8 @@ use mathlib.Core.Bool.{Bool, true, false}
 use mathlib.Core.List.{List}
 use mathlib.Core.Option.{Option, none, some}
 use Prim.Native.Nat.{ℕ}
-use Rattle.laws.specs.Choice.{pick}
-use Rattle.laws.specs.Bytes.{same}
-use Rattle.map.specs.declared.Key.{Key}
 use Rattle.map.specs.declared.Walked.{Walked}
-use Rattle.map.specs.Keys.{nameImage, nameSha, nameUpgrade}
 use Rattle.map.specs.Walk.{Found, malformed, upTo}
-
--- the upload's key of a name that is none of the first three
-unfoldable pub laterName : List ℕ → Key
-laterName k = pick (same k nameImage) Key.Image (pick (same k nameSha) Key.Sha (pick (same k nameUpgrade) Key.Upgrade Key.Other))
 
 -- what is answered: the place reached
 unfoldable pub placeIn : Found → Walked

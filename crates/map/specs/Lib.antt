@@ -1,4 +1,2 @@
-pub mod Keys
-pub mod Fields
 pub mod Walk
 pub mod Inner

@@ -12,10 +12,10 @@ use Rattle.cbor.specs.declared.Value.{Value}
 use Rattle.cbor.specs.declared.Head.{Head}
 use Rattle.cbor.specs.declared.Item.{Item}
 use Rattle.cbor.specs.Read.{headAt, itemAt}
-use Rattle.map.specs.declared.Kind.{Kind}
-use Rattle.map.specs.declared.Key.{Key}
-use Rattle.map.specs.Keys.{keyOf, typeOf, typeFor, listed}
-use Rattle.map.specs.Fields.{nothing, there, stored}
+use Rattle.fields.specs.declared.Kind.{Kind}
+use Rattle.fields.specs.declared.Key.{Key}
+use Rattle.fields.specs.Keys.{keyOf, typeOf, typeFor, listed}
+use Rattle.fields.specs.Fields.{nothing, there, stored}
 
 -- what reading comes to: malformed, or a place reached with the fields so far
 pub data Found : Type 0 where

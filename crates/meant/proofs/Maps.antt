@@ -11,10 +11,10 @@ use Rattle.laws.specs.Bytes.{same}
 use Rattle.cbor.specs.declared.Value.{Value}
 use Rattle.cbor.specs.declared.Value.the-variants.{Unsigned}
 use Rattle.cbor.specs.Write.{headOf, unsigned, bytesOf, textOf, mapOf}
-use Rattle.map.specs.declared.Kind.{Kind}
-use Rattle.map.specs.declared.Key.{Key}
-use Rattle.map.specs.Keys.{nameD, nameR, nameRc, nameData, nameLen, nameOff, nameSha, keyOf, typeFor}
-use Rattle.map.specs.Fields.{indexOf, nothing, stored}
+use Rattle.fields.specs.declared.Kind.{Kind}
+use Rattle.fields.specs.declared.Key.{Key}
+use Rattle.fields.specs.Keys.{nameD, nameR, nameRc, nameData, nameLen, nameOff, nameSha, keyOf, typeFor}
+use Rattle.fields.specs.Fields.{indexOf, nothing, stored}
 use Rattle.map.specs.Walk.{mapFrom}
 use Rattle.map.proofs.Laws.{walked}
 use Rattle.smp.specs.declared.Reply.{Reply as Answered}

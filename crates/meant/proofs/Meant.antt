@@ -23,10 +23,10 @@ use Rattle.reason.proofs.Byte.{rc-byte}
 use Rattle.cbor.specs.declared.Value.{Value}
 use Rattle.cbor.specs.declared.Value.the-variants.{Unsigned}
 use Rattle.cbor.specs.Write.{textOf, mapOf}
-use Rattle.map.specs.declared.Kind.{Kind}
-use Rattle.map.specs.declared.Key.{Key}
-use Rattle.map.specs.Keys.{nameD, nameR}
-use Rattle.map.specs.Fields.{indexOf, firstOf, secondOf, stored, numberIn, runIn, flagIn}
+use Rattle.fields.specs.declared.Kind.{Kind}
+use Rattle.fields.specs.declared.Key.{Key}
+use Rattle.fields.specs.Keys.{nameD, nameR}
+use Rattle.fields.specs.Fields.{indexOf, firstOf, secondOf, stored, numberIn, runIn, flagIn}
 use Rattle.map.specs.Walk.{mapFrom}
 use Rattle.rules.specs.declared.Upload.{Upload}
 use Rattle.rules.specs.Plan.{above, largest}

@@ -14,10 +14,10 @@ use Rattle.laws.proofs.Choice.{pick-yes}
 use Rattle.cbor.specs.declared.Value.{Value}
 use Rattle.cbor.specs.declared.Value.the-variants.{Unsigned}
 use Rattle.cbor.specs.Write.{headOf, unsigned, bytesOf, textOf, mapOf}
-use Rattle.map.specs.declared.Kind.{Kind}
-use Rattle.map.specs.declared.Key.{Key}
-use Rattle.map.specs.Keys.{keyOf, typeFor}
-use Rattle.map.specs.Fields.{placeOf, nothing, stored}
+use Rattle.fields.specs.declared.Kind.{Kind}
+use Rattle.fields.specs.declared.Key.{Key}
+use Rattle.fields.specs.Keys.{keyOf, typeFor}
+use Rattle.fields.specs.Fields.{placeOf, nothing, stored}
 use Rattle.map.specs.Walk.{upTo, pairAt, mapFrom}
 use Rattle.map.proofs.Laws.{walked, pair-unsigned, pair-bytes, pair-text, walk-on, walk-end, map-back}
 use Rattle.smp.specs.declared.Header.{Header}

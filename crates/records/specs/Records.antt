@@ -13,7 +13,7 @@ use Rattle.reader.specs.declared.Reader.{Reader}
 use Rattle.reader.specs.declared.Reader.the-variants.{Idle, Open}
 use Rattle.session.specs.declared.Layout.{Layout}
 use Rattle.session.specs.declared.Session.{Session}
-use Rattle.map.specs.Fields.{flagNumber}
+use Rattle.fields.specs.Fields.{flagNumber}
 use Rattle.replies.specs.declared.Reply.{Reply}
 use Rattle.replies.specs.Read.{orZero}
 

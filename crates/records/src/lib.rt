@@ -16,7 +16,7 @@ ghost use mathlib.Core.Path.{_≡_};
 ghost use mathlib.Core.List.{List};
 ghost use Prim.Native.Nat.{_≤_, ℕ};
 ghost use lib.ListN.{length};
-ghost use Rattle.map.specs.Fields.{flagNumber};
+ghost use Rattle.fields.specs.Fields.{flagNumber};
 ghost use Rattle.frame.specs.Line.{longest};
 ghost use Rattle.collector.specs.Collector.{most, said};
 ghost use Rattle.records.specs.Records.{layoutOf, collectorFrom, collectorNumbers, readerNumbers, sessionNumbers, flagOf, readerFrom};

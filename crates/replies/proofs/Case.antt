@@ -9,9 +9,9 @@ use native.Mathlib.Omega.{arith}
 use borrow.Author.Tests.{ltb-false}
 use Rattle.laws.specs.declared.Number.{Number}
 use Rattle.laws.proofs.Choice.{pick-case}
-use Rattle.map.specs.declared.Kind.{Kind}
-use Rattle.map.specs.declared.Key.{Key}
-use Rattle.map.specs.Fields.{numberIn, runIn}
+use Rattle.fields.specs.declared.Kind.{Kind}
+use Rattle.fields.specs.declared.Key.{Key}
+use Rattle.fields.specs.Fields.{numberIn, runIn}
 use Rattle.map.specs.Walk.{mapFrom}
 use Rattle.rules.specs.Plan.{above, largest}
 use Rattle.replies.specs.declared.Reply.{Reply}

@@ -11,9 +11,9 @@ use Rattle.laws.specs.declared.Number.{Number}
 use Rattle.laws.specs.declared.Run.{Run}
 use Rattle.laws.specs.Choice.{pick, both}
 use Rattle.refusal.specs.Number.{numberOf}
-use Rattle.map.specs.declared.Kind.{Kind}
-use Rattle.map.specs.declared.Key.{Key}
-use Rattle.map.specs.Fields.{numberIn, runIn}
+use Rattle.fields.specs.declared.Kind.{Kind}
+use Rattle.fields.specs.declared.Key.{Key}
+use Rattle.fields.specs.Fields.{numberIn, runIn}
 use Rattle.map.specs.Walk.{mapFrom}
 use Rattle.rules.specs.Plan.{above, largest}
 use Rattle.smp.specs.Packet.{headerIn, sized}

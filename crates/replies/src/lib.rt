@@ -1,8 +1,8 @@
 // The host's reply reader: a packet read as a reply.
+use fields::Key;
+use fields::Kind;
 use laws::Number;
 use laws::Run;
-use map::Key;
-use map::Kind;
 use refusal::Refusal;
 use smp::Header;
 ghost use mathlib.Core.Path.{_≡_};
@@ -76,15 +76,15 @@ fn reply_with(s: &[u8], rc: Number, off: Number, text: Run) -> Reply
 fn values_of(s: &[u8], f: &[u64; 30]) -> Heard
     ensures { λ r. ⌜ said r ≡ valuesOf (now (s .entry)) (now (f .entry)) ⌝ }
 {
-    let rc = map::number_in(f, Key::Rc);
+    let rc = fields::number_in(f, Key::Rc);
     if is_large(rc) {
         return Heard::Refused(Refusal::WrongKind);
     }
-    let off = map::number_in(f, Key::Off);
+    let off = fields::number_in(f, Key::Off);
     if is_large(off) {
         return Heard::Refused(Refusal::WrongKind);
     }
-    let text = map::run_in(f, Key::Text);
+    let text = fields::run_in(f, Key::Text);
     Heard::Reply(reply_with(s, rc, off, text))
 }
 

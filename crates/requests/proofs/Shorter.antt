@@ -27,12 +27,12 @@ use Rattle.cbor.specs.Inner.{HeadWithin, ItemWithin}
 use Rattle.cbor.specs.Inner.{StringLeast, ItemLeast}
 use Rattle.cbor.proofs.Laws.{head-long, head-within, item-within}
 use Rattle.cbor.proofs.Least.{item-least}
-use Rattle.map.specs.declared.Kind.{Kind}
-use Rattle.map.specs.declared.Key.{Key}
-use Rattle.map.specs.Keys.{nameD, keyOf, typeOf, typeFor}
-use Rattle.map.specs.Fields.{indexOf, nothing, there, firstOf, secondOf, stored, numberIn, runIn}
+use Rattle.fields.specs.declared.Kind.{Kind}
+use Rattle.fields.specs.declared.Key.{Key}
+use Rattle.fields.specs.Keys.{nameD, keyOf, typeOf, typeFor}
+use Rattle.fields.specs.Fields.{indexOf, nothing, there, firstOf, secondOf, stored, numberIn, runIn}
 use Rattle.map.specs.Walk.{Found, malformed, upTo, entered, valued, keyed, pairAt, andThen, pairs, mapAfter, mapAt, endingAt, mapFrom}
-use Rattle.map.proofs.Fields.{stored-back}
+use Rattle.fields.proofs.Fields.{stored-back}
 use Rattle.requests.specs.declared.Command.{Command}
 use Rattle.requests.specs.declared.Request.{Request}
 use Rattle.smp.specs.Packet.{headerIn}

@@ -17,9 +17,9 @@ use Rattle.laws.proofs.Choice.{pick-case, pick-keep, both-yes, both-true}
 use Rattle.laws.specs.declared.Number.{Number}
 use Rattle.laws.specs.declared.Run.{Run}
 use Rattle.laws.specs.Parts.{Within}
-use Rattle.map.specs.declared.Kind.{Kind}
-use Rattle.map.specs.declared.Key.{Key}
-use Rattle.map.specs.Fields.{indexOf, numberIn, runIn}
+use Rattle.fields.specs.declared.Kind.{Kind}
+use Rattle.fields.specs.declared.Key.{Key}
+use Rattle.fields.specs.Fields.{indexOf, numberIn, runIn}
 use Rattle.map.specs.Walk.{mapFrom}
 use Rattle.map.proofs.Sound.{map-run}
 use Rattle.rules.specs.declared.Upload.{Upload}

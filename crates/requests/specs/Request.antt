@@ -12,9 +12,9 @@ use Rattle.laws.specs.declared.Run.{Run}
 use Rattle.laws.specs.Choice.{pick, both}
 use Rattle.laws.specs.Bytes.{Bytes}
 use Rattle.reason.specs.declared.Reason.{Reason}
-use Rattle.map.specs.declared.Kind.{Kind}
-use Rattle.map.specs.declared.Key.{Key}
-use Rattle.map.specs.Fields.{numberIn, runIn, flagIn}
+use Rattle.fields.specs.declared.Kind.{Kind}
+use Rattle.fields.specs.declared.Key.{Key}
+use Rattle.fields.specs.Fields.{numberIn, runIn, flagIn}
 use Rattle.map.specs.Walk.{mapFrom}
 use Rattle.smp.specs.declared.Header.{Header}
 use Rattle.requests.specs.declared.Command.{Command}

@@ -1,8 +1,8 @@
 // Requests: a packet read as one, its map's fields as values.
+use fields::Key;
+use fields::Kind;
 use laws::Number;
 use laws::Run;
-use map::Key;
-use map::Kind;
 use reason::Reason;
 use rules::Upload;
 use smp::Header;
@@ -90,7 +90,7 @@ fn echo_in(s: &[u8]) -> Request
     if !whole {
         return Request::Answer(Reason::MalformedMap);
     }
-    let text = map::run_in(&f, Key::Text);
+    let text = fields::run_in(&f, Key::Text);
     let Run::At { start, len } = text else {
         return Request::Answer(Reason::NoText);
     };
@@ -130,7 +130,7 @@ fn erase_in(s: &[u8]) -> Request
     if !whole {
         return Request::Answer(Reason::MalformedMap);
     }
-    let slot = map::number_in(&f, Key::Slot);
+    let slot = fields::number_in(&f, Key::Slot);
     let Number::Is(n) = slot else {
         return Request::Erase;
     };
@@ -144,18 +144,18 @@ fn erase_in(s: &[u8]) -> Request
 fn upload_of(f: &[u64; 30]) -> Request
     ensures { λ r. ⌜ r ≡ uploadOf (now (f .entry)) ⌝ }
 {
-    let offset = map::number_in(f, Key::Off);
+    let offset = fields::number_in(f, Key::Off);
     let Number::Is(off) = offset else {
         return Request::Answer(Reason::NoOffset);
     };
-    let chunk = map::run_in(f, Key::Data);
+    let chunk = fields::run_in(f, Key::Data);
     let Run::At { start, len } = chunk else {
         return Request::Answer(Reason::NoData);
     };
-    let length = map::number_in(f, Key::Len);
-    let image = map::number_in(f, Key::Image);
-    let sha = map::run_in(f, Key::Sha);
-    let upgrade = map::flag_in(f, Key::Upgrade);
+    let length = fields::number_in(f, Key::Len);
+    let image = fields::number_in(f, Key::Image);
+    let sha = fields::run_in(f, Key::Sha);
+    let upgrade = fields::flag_in(f, Key::Upgrade);
     Request::Upload(Upload {
         off,
         start,

@@ -17,7 +17,7 @@ use Rattle.laws.proofs.Lists.{pasted-is, pasted-start, pasted-twice}
 use Rattle.cbor.specs.Inner.{Put}
 use Rattle.cbor.specs.Write.{headOf, unsigned, textOf, mapOf}
 use Rattle.cbor.proofs.Laws.{head-size, head-length, head-long, len-one, len-four, form-tiny}
-use Rattle.map.specs.Keys.{nameR, nameRc, nameOff}
+use Rattle.fields.specs.Keys.{nameR, nameRc, nameOff}
 use Rattle.smp.specs.declared.Header.{Header}
 use Rattle.smp.specs.declared.Reply.{Reply}
 use Rattle.smp.specs.Packet.{headerBytes}

@@ -10,7 +10,7 @@ use Rattle.laws.specs.Parts.{partOf}
 use Rattle.reason.specs.declared.Reason.{Reason}
 use Rattle.reason.specs.Rc.{rcOf}
 use Rattle.cbor.specs.Write.{unsigned, textOf, mapOf}
-use Rattle.map.specs.Keys.{nameR, nameRc, nameOff}
+use Rattle.fields.specs.Keys.{nameR, nameRc, nameOff}
 use Rattle.smp.specs.declared.Header.{Header}
 use Rattle.smp.specs.declared.Reply.{Reply}
 use Rattle.smp.specs.Packet.{headerBytes}

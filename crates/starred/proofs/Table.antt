@@ -15,7 +15,7 @@ use Rattle.base64.specs.Base64.{char, encode}
 use Rattle.frame.specs.Line.{frame}
 use Rattle.sender.specs.Sender.{frameCount, rawOf, startOf, stopOf, pieceOf, frameOf}
 use Rattle.cbor.specs.Write.{beBytes, headOf}
-use Rattle.map.specs.Fields.{indexOf, runIn}
+use Rattle.fields.specs.Fields.{indexOf, runIn}
 use Rattle.map.specs.Walk.{mapFrom}
 use Rattle.session.specs.Session.{regionOk, overlapping, layoutOk, sessionOk}
 use Rattle.rules.specs.Plan.{above, misSized, sameTag, planLater, planSized, planLength, planFirst, planOf}

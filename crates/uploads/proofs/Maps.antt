@@ -12,7 +12,7 @@ use lib.ListN.{length, length-append}
 use Rattle.laws.proofs.Choice.{pick-yes, pick-no, both-yes}
 use Rattle.cbor.specs.Write.{headOf, unsigned, bytesOf, textOf, mapOf}
 use Rattle.cbor.proofs.Laws.{head-size, head-length, form-one}
-use Rattle.map.specs.Keys.{nameData, nameLen, nameOff, nameSha}
+use Rattle.fields.specs.Keys.{nameData, nameLen, nameOff, nameSha}
 use Rattle.smp.proofs.Writing.{head-tiny}
 use Rattle.uploads.specs.Upload.{laterMap, firstMap, oddLength, misSized}
 use Rattle.uploads.specs.Inner.{firstPairs}

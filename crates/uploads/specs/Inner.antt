@@ -3,7 +3,7 @@
 use Prim.Native.Nat.{ℕ}
 use mathlib.Core.List.{List, _++_}
 use Rattle.cbor.specs.Write.{unsigned, bytesOf, textOf}
-use Rattle.map.specs.Keys.{nameData, nameLen, nameOff}
+use Rattle.fields.specs.Keys.{nameData, nameLen, nameOff}
 
 -- the pairs that every upload at offset 0 has
 abbrev pub firstPairs : List ℕ → ℕ → List ℕ

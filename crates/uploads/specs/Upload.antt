@@ -8,7 +8,7 @@ use lib.Dec.{ltb, eqb}
 use lib.ListN.{length}
 use Rattle.laws.specs.Choice.{pick, both}
 use Rattle.cbor.specs.Write.{unsigned, bytesOf, textOf, mapOf}
-use Rattle.map.specs.Keys.{nameData, nameLen, nameOff, nameSha}
+use Rattle.fields.specs.Keys.{nameData, nameLen, nameOff, nameSha}
 use Rattle.host.specs.Write.{requestPacket, Outcome, unsendable, put}
 
 -- {"data": x, "off": off}

@@ -12,9 +12,9 @@ use Rattle.laws.specs.declared.Run.{Run}
 use Rattle.laws.specs.Bytes.{ofBe16}
 use Rattle.laws.specs.Parts.{Within}
 use Rattle.laws.proofs.Choice.{both-true}
-use Rattle.map.specs.declared.Kind.{Kind}
-use Rattle.map.specs.declared.Key.{Key}
-use Rattle.map.specs.Fields.{indexOf, numberIn, runIn}
+use Rattle.fields.specs.declared.Kind.{Kind}
+use Rattle.fields.specs.declared.Key.{Key}
+use Rattle.fields.specs.Fields.{indexOf, numberIn, runIn}
 use Rattle.map.proofs.Sound.{map-run}
 use Rattle.smp.specs.Packet.{sized}
 use Rattle.smp.proofs.Headers.{two-bytes}

@@ -6,7 +6,7 @@ use native.Mathlib.Omega.{arith}
 use lib.Dec.{lit<}
 use lib.ListN.{length}
 use Rattle.cbor.specs.Write.{textOf, mapOf}
-use Rattle.map.specs.Keys.{nameD}
+use Rattle.fields.specs.Keys.{nameD}
 use Rattle.host.proofs.Writing.{echo-parts}
 use Rattle.smp.proofs.Writing.{put-then, room-first, room-rest}
 use borrow.Author.Needs.{needs}

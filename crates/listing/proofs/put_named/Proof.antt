@@ -5,7 +5,7 @@ use Prim.Native.Nat.{ℕ}
 use native.Mathlib.Omega.{arith}
 use lib.Dec.{lit<}
 use Rattle.cbor.specs.Write.{unsigned, textOf, mapOf}
-use Rattle.map.specs.Keys.{nameSlot}
+use Rattle.fields.specs.Keys.{nameSlot}
 use Rattle.smp.proofs.Writing.{put-then, put-three, room-first, room-rest, room-one, room-two, room-three}
 use Rattle.listing.specs.Listing.{nameVersion, versionText}
 use Rattle.listing.proofs.Laws.{four-parts}

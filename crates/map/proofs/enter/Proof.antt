@@ -3,8 +3,8 @@
 use mathlib.Core.Path.{_≡_, sym, ap, _∙_}
 use Prim.Native.Nat.{ℕ}
 use lib.ListN.{getD}
-use Rattle.map.specs.Keys.{typeOf, typeFor}
-use Rattle.map.specs.Fields.{placeOf}
+use Rattle.fields.specs.Keys.{typeOf, typeFor}
+use Rattle.fields.specs.Fields.{placeOf}
 use Rattle.map.specs.Walk.{upTo}
 use Rattle.map.proofs.Ways.{enter-other, enter-twice, enter-type, enter-field, finds-bad, finds-to}
 use borrow.Author.Needs.{needs}

@@ -5,7 +5,7 @@ use mathlib.Core.List.{List}
 use mathlib.Core.Option.{some}
 use Prim.Native.Nat.{ℕ}
 use Rattle.map.specs.Walk.{malformed, mapAt}
-use Rattle.map.specs.Fields.{nothing}
+use Rattle.fields.specs.Fields.{nothing}
 use Rattle.map.proofs.Ways.{from-empty, from-bad, from-ends, reads-bad, reads-map, found-bad, found-to}
 use borrow.Author.Needs.{needs}
 use Rattle.map.proofs.map_from.Statement.{statement}

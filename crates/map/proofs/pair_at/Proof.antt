@@ -5,7 +5,7 @@ use Prim.Native.Nat.{_+_}
 use native.Mathlib.Omega.{arith}
 use Rattle.cbor.specs.Read.{itemAt}
 use Rattle.cbor.proofs.Laws.{head-place}
-use Rattle.map.specs.declared.Key.{Key}
+use Rattle.fields.specs.declared.Key.{Key}
 use Rattle.map.specs.Walk.{valued}
 use Rattle.map.proofs.Ways.{pair-bad, pair-other, pair-cut, pair-whole, finds-bad, finds-by}
 use borrow.Author.Needs.{needs}

@@ -5,7 +5,7 @@ use Prim.Native.Nat.{ℕ}
 use Rattle.session.specs.declared.Configured.{Configured}
 use Rattle.session.specs.declared.Layout.{Layout}
 use Rattle.session.specs.Session.{Said, said, configured}
-use Rattle.map.specs.Fields.{flagNumber}
+use Rattle.fields.specs.Fields.{flagNumber}
 use Rattle.records.specs.Records.{sessionNumbers}
 use Rattle.packet_calls.specs.Calls.{ConfiguredC, configuredBy, configuredC}
 use borrow.Author.Needs.{needs}

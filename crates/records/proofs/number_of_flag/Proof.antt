@@ -1,7 +1,7 @@
 -- `records::number_of_flag` meets its contract, case by case.
 -- Assumes nothing.
 use mathlib.Core.Path.{sym, ap}
-use Rattle.map.specs.Fields.{flagNumber}
+use Rattle.fields.specs.Fields.{flagNumber}
 use Rattle.records.proofs.number_of_flag.Statement.{statement}
 use Rattle.records.proofs.number_of_flag.Tie as tie
 

@@ -3,8 +3,8 @@
 use mathlib.Core.Path.{sym, ap, ap₂, _∙_}
 use Rattle.laws.specs.declared.Number.{Number}
 use Rattle.laws.specs.declared.Run.{Run}
-use Rattle.map.specs.declared.Key.{Key}
-use Rattle.map.specs.Fields.{runIn}
+use Rattle.fields.specs.declared.Key.{Key}
+use Rattle.fields.specs.Fields.{runIn}
 use Rattle.requests.specs.Request.{uploadWith}
 use borrow.Author.Needs.{needs}
 use Rattle.requests.proofs.upload_of.Statement.{statement}

@@ -5,7 +5,7 @@ use native.Mathlib.Omega.{arith}
 use lib.Dec.{lit<}
 use lib.ListN.{take, drop}
 use Rattle.cbor.specs.Write.{textOf, mapOf}
-use Rattle.map.specs.Keys.{nameR}
+use Rattle.fields.specs.Keys.{nameR}
 use Rattle.smp.proofs.Writing.{put-three, room-one, room-two, room-three, echo-parts}
 use borrow.Author.Needs.{needs}
 use Rattle.smp.proofs.put_echo.Statement.{statement}

@@ -4,7 +4,7 @@ use mathlib.Core.List.{[], _++_}
 use native.Mathlib.Omega.{arith}
 use lib.Dec.{lit<}
 use Rattle.cbor.specs.Write.{unsigned, textOf, mapOf}
-use Rattle.map.specs.Keys.{nameRc, nameOff}
+use Rattle.fields.specs.Keys.{nameRc, nameOff}
 use Rattle.smp.proofs.Writing.{put-three, room-one, room-two, room-three, placed-parts}
 use borrow.Author.Needs.{needs}
 use Rattle.smp.proofs.put_placed.Statement.{statement}

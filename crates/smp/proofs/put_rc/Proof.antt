@@ -4,7 +4,7 @@ use mathlib.Core.List.{_++_}
 use native.Mathlib.Omega.{arith}
 use lib.Dec.{lit<}
 use Rattle.cbor.specs.Write.{unsigned, textOf, mapOf}
-use Rattle.map.specs.Keys.{nameRc}
+use Rattle.fields.specs.Keys.{nameRc}
 use Rattle.smp.proofs.Writing.{put-then, room-first, room-rest}
 use borrow.Author.Needs.{needs}
 use Rattle.smp.proofs.put_rc.Statement.{statement}

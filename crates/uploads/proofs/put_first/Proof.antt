@@ -6,7 +6,7 @@ use native.Mathlib.Omega.{arith}
 use lib.Dec.{lit<}
 use lib.ListN.{length}
 use Rattle.cbor.specs.Write.{bytesOf, textOf, mapOf}
-use Rattle.map.specs.Keys.{nameSha}
+use Rattle.fields.specs.Keys.{nameSha}
 use Rattle.smp.proofs.Writing.{put-then, room-first, room-rest}
 use Rattle.uploads.specs.Inner.{firstPairs}
 use Rattle.uploads.proofs.Maps.{first-untagged, first-tagged}

@@ -6,7 +6,7 @@ use native.Mathlib.Omega.{arith}
 use lib.Dec.{lit<}
 use lib.ListN.{length}
 use Rattle.cbor.specs.Write.{unsigned, bytesOf, textOf, mapOf}
-use Rattle.map.specs.Keys.{nameData, nameOff}
+use Rattle.fields.specs.Keys.{nameData, nameOff}
 use Rattle.uploads.proofs.Maps.{later-parts}
 use Rattle.smp.proofs.Writing.{put-then, room-first, room-rest}
 use borrow.Author.Needs.{needs}

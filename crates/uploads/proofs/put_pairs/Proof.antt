@@ -5,7 +5,7 @@ use Prim.Native.Nat.{ℕ, _+_, _≤_}
 use native.Mathlib.Omega.{arith}
 use lib.ListN.{length}
 use Rattle.cbor.specs.Write.{unsigned, bytesOf, textOf}
-use Rattle.map.specs.Keys.{nameData, nameLen, nameOff}
+use Rattle.fields.specs.Keys.{nameData, nameLen, nameOff}
 use Rattle.smp.proofs.Writing.{put-then, room-first, room-rest}
 use borrow.Author.Needs.{needs}
 use Rattle.uploads.proofs.put_pairs.Statement.{statement}
