@@ -50,13 +50,23 @@ add-result : tie.Need-add-result Inv-loop μ-loop
 add-result c = search needs
 
 returns : tie.Need-returns Inv-loop μ-loop
-returns c = turn-in (c .before .before .before .before .before .before .before .before .before .before .before .args .text .now) (c .before .before .before .before .before .before .before .before .loop .i) _ _ _ _ (c .before .standing .result) refl (c .before .before .before .before .before .byte-at .ensures) (c .before .before .before .before .byte-at2 .ensures) (c .before .before .before .byte-at3 .ensures) (c .before .standing .ensures) (c .before .before .before .before .before .before .before .before .loop .inv .1) (c .if1 .taken)
+returns c =
+    let a = c .before .before .before .before .before .before .before .before .before .before .before .args in
+    let at = c .before .before .before .before .before .before .before .before .loop in
+    let s = c .before .standing in
+    turn-in (a .text .now) (at .i) _ _ _ _ (s .result) refl (c .before .before .before .before .before .byte-at .ensures)
+    (c .before .before .before .before .byte-at2 .ensures) (c .before .before .before .byte-at3 .ensures) (s .ensures) (at .inv .1) (c .if1 .taken)
 
 add-result-2 : tie.Need-add-result-2 Inv-loop μ-loop
 add-result-2 c = search needs
 
 returns-2 : tie.Need-returns-2 Inv-loop μ-loop
-returns-2 c = turn-behind (c .before .before .before .before .before .before .before .before .before .before .before .before .args .text .now) (c .before .before .before .before .before .before .before .before .before .loop .i) _ _ _ _ (c .before .before .standing .result) refl (c .before .before .before .before .before .before .byte-at .ensures) (c .before .before .before .before .before .byte-at2 .ensures) (c .before .before .before .before .byte-at3 .ensures) (c .before .before .standing .ensures) (c .before .before .before .before .before .before .before .before .before .loop .inv .1) (c .before .if1 .left) (c .if2 .taken)
+returns-2 c =
+    let a = c .before .before .before .before .before .before .before .before .before .before .before .before .args in
+    let at = c .before .before .before .before .before .before .before .before .before .loop in
+    let s = c .before .before .standing in
+    turn-behind (a .text .now) (at .i) _ _ _ _ (s .result) refl (c .before .before .before .before .before .before .byte-at .ensures)
+    (c .before .before .before .before .before .byte-at2 .ensures) (c .before .before .before .before .byte-at3 .ensures) (s .ensures) (at .inv .1) (c .before .if1 .left) (c .if2 .taken)
 
 add-i : tie.Need-add-i Inv-loop μ-loop
 add-i c = search needs
@@ -65,7 +75,12 @@ loop-less : tie.Need-loop-less Inv-loop μ-loop
 loop-less c = omega arith
 
 loop-again : tie.Need-loop-again Inv-loop μ-loop
-loop-again c = turn-on (c .before .before .before .before .before .before .before .before .before .before .before .before .args .text .now) (c .before .before .before .before .before .before .before .before .before .loop .i) _ _ _ _ (c .before .before .standing .result) refl (c .before .before .before .before .before .before .byte-at .ensures) (c .before .before .before .before .before .byte-at2 .ensures) (c .before .before .before .before .byte-at3 .ensures) (c .before .before .standing .ensures) (c .before .before .before .before .before .before .before .before .before .loop .inv .1) (c .before .if1 .left) (c .if2 .left)
+loop-again c =
+    let a = c .before .before .before .before .before .before .before .before .before .before .before .before .args in
+    let at = c .before .before .before .before .before .before .before .before .before .loop in
+    let s = c .before .before .standing in
+    turn-on (a .text .now) (at .i) _ _ _ _ (s .result) refl (c .before .before .before .before .before .before .byte-at .ensures)
+    (c .before .before .before .before .before .byte-at2 .ensures) (c .before .before .before .before .byte-at3 .ensures) (s .ensures) (at .inv .1) (c .before .if1 .left) (c .if2 .left)
 
 returns-3 : tie.Need-returns-3 Inv-loop μ-loop
 returns-3 c = turned _ _ (c .loop-test .left) (c .before .loop .inv .0) (c .before .loop .inv .1)
