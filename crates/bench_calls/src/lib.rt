@@ -1,4 +1,6 @@
 // The calls of the bench on arrays of numbers: the records of a recording, and the text of a replay.
+#![tactic(auto)]
+
 ghost use Rattle.std.specs.Prelude.{◌≡◌};
 ghost use Rattle.bench_calls.specs.Calls.{kind_number_def, first_c, record_c, transcript_c};
 

@@ -1,5 +1,7 @@
 // CBOR (RFC 8949) as far as the port allows it: heads of any width, strings of definite length, integers, false, true and null; and heads
 // written the shortest way.
+#![tactic(auto)]
+
 ghost use Rattle.std.specs.Prelude.{◌≡◌, ◌+◌, ◌≤◌, ◌<◌, ◌∷◌, length, get_or, take, drop};
 ghost use Rattle.cbor.specs.Read.{be_after, width_of, head_at_def, string_from_def, value_after_def, item_at};
 ghost use Rattle.cbor.specs.Write.{be_bytes, head_of};
@@ -7,7 +9,7 @@ ghost use Rattle.laws.specs.Bytes.{pasted};
 ghost use Rattle.cbor.specs.Inner.{Put};
 
 // One item's value. A string is named by where it starts in the bytes that were read, and its length.
-#[derive(Drop)]
+#[derive(Clone, Copy)]
 pub enum Value {
     Unsigned(u64),
     // The number -1 - n.
@@ -19,7 +21,7 @@ pub enum Value {
 }
 
 // A head: its major type, its argument, and the place after it.
-#[derive(Drop)]
+#[derive(Clone, Copy)]
 pub enum Head {
     Is {
         major: u8,
@@ -30,7 +32,7 @@ pub enum Head {
 }
 
 // An item: its value, and the place after it.
-#[derive(Drop)]
+#[derive(Clone, Copy)]
 pub enum Item {
     Is { value: Value, next: usize },
     Malformed,

@@ -9,7 +9,7 @@ use lib.Dec.{eqb}
 use borrow.Author.Tests.{lt-ltb, le-ltb, ltb-true, ltb-false, eq-eqb, ne_eqb}
 use lib.ListN.{length, take, drop, get_or, length-take, length-drop, take-append-drop}
 use lib.Seq.{drop-drop}
-use Rattle.bytes.specs.Bytes.{index_of}
+use Rattle.collector.specs.Search.{index_of}
 use Rattle.frame.specs.Line.{newline}
 use Rattle.collector.specs.Collector.{before, has_newline}
 use Rattle.collector.proofs.Laws.{before_le}

@@ -14,7 +14,7 @@ use Rattle.laws.specs.Choice.{pick}
 use Rattle.laws.specs.Bytes.{pasted}
 use Rattle.laws.proofs.Choice.{pick_yes, pick_no}
 use Rattle.laws.proofs.Lists.{pasted_length, pasted_take, pasted_twice}
-use Rattle.bytes.specs.Bytes.{index_after, index_of}
+use Rattle.collector.specs.Search.{index_after, index_of}
 use Rattle.frame.specs.Line.{newline}
 use Rattle.collector.specs.declared.Collector.{Collector}
 use Rattle.collector.specs.Collector.{most, before, has_newline, held_of, impossible, empty, skips, longer, line, ended}

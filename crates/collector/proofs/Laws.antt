@@ -11,7 +11,7 @@ use native.Mathlib.Decide.{dec_le}
 use borrow.Author.Tests.{lt-ltb, le-ltb}
 use lib.ListN.{length, take, drop, set, length-append, length-take, length-drop, drop_of_length-le}
 use lib.Seq.{take-length}
-use Rattle.bytes.specs.Bytes.{index_after, index_of, slice}
+use Rattle.collector.specs.Search.{index_after, index_of, slice}
 use Rattle.laws.specs.Bytes.{pasted}
 use Rattle.laws.proofs.Choice.{pick_yes, pick_no}
 use Rattle.laws.proofs.Lists.{pasted_none, pasted_length, pasted_twice, set_pasted, rest_all}

@@ -1,3 +1,4 @@
+mod Search
 pub mod Laws
 pub mod Cut
 pub mod Blocks

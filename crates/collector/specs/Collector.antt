@@ -3,7 +3,7 @@
 use Rattle.std.specs.Prelude.{ℕ, ◌+◌, ◌-◌, Bool, true, false, List, [], ◌∷◌, ◌++◌, ltb, length, take, drop, replicate}
 use Rattle.laws.specs.Choice.{pick}
 use Rattle.laws.specs.Bytes.{pasted}
-use Rattle.bytes.specs.Bytes.{index_of}
+use Rattle.collector.specs.Search.{index_of}
 use Rattle.refusal.specs.Number.{number_of}
 use Rattle.refusal.specs.declared.Refusal.TheVariants.{Impossible, LineTooLong, Unsendable}
 use Rattle.frame.specs.Line.{longest, newline}

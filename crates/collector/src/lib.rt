@@ -1,6 +1,9 @@
 // The line collector: bytes come in lumps, as a serial driver has them, and each line is handed on when its 0A comes.
+#![tactic(auto)]
+
 ghost use Rattle.std.specs.Prelude.{◌≡◌, ◌+◌, ◌≤◌, length, take, drop};
-ghost use Rattle.frame.specs.Line.{longest};
+ghost use Rattle.frame.specs.Line.{longest, newline};
+ghost use Rattle.collector.specs.Search.{slice, index_of};
 ghost use Rattle.collector.specs.Collector.{most, longest_lump, before, has_newline, impossible, nothing, empty, longer, ended, said, saying, outcome, stepped, collect};
 
 use refusal::Refusal;
@@ -12,7 +15,7 @@ pub const MOST: usize = frame::LONGEST - 1;
 pub const LONGEST_LUMP: usize = 256;
 
 // The collector's record between two steps.
-#[derive(Drop)]
+#[derive(Clone, Copy)]
 pub struct Collector {
     // The bytes of the line that has begun stand at the start of this array; what stands behind them is not looked at.
     pub held: [u8; MOST],
@@ -23,7 +26,7 @@ pub struct Collector {
 }
 
 // What a step gives.
-#[derive(Drop)]
+#[derive(Clone, Copy)]
 pub enum Got {
     // A line of this many bytes, its 0A included, stands at the start of the lent array.
     Line(usize),
@@ -34,7 +37,7 @@ pub enum Got {
 }
 
 // What a step gives, the place of the lump to go on from, and the collector for the next step.
-#[derive(Drop)]
+#[derive(Clone, Copy)]
 pub struct Step {
     pub got: Got,
     pub place: usize,
@@ -57,6 +60,23 @@ fn in_block(s: &[u8], i: usize) -> bool
     found
 }
 
+// Where the first 0A from place `from` on and before `end` stands, or `end` where there is none.
+fn find(s: &[u8], from: usize, end: usize) -> usize
+    requires from_bound { from ≤ end }
+    requires end_bound { end ≤ length s.now }
+    ensures place { result ≡ from + index_of newline (slice from end s.now) }
+    ensures within { result ≤ end }
+{
+    let mut i = from;
+    while i < end {
+        if s[i] == frame::NEWLINE {
+            break;
+        }
+        i += 1;
+    }
+    i
+}
+
 // Where the first 0A from place `from` on stands, or the length where there is none.
 fn first_newline(s: &[u8], from: usize) -> usize
     requires { from ≤ length s.now }
@@ -70,7 +90,7 @@ fn first_newline(s: &[u8], from: usize) -> usize
         }
         i += 16;
     }
-    bytes::scan::find(s, i, len, frame::NEWLINE)
+    find(s, i, len)
 }
 
 impl Collector {
@@ -142,7 +162,7 @@ impl Collector {
             return true;
         }
         let held = self.held;
-        bytes::scan::find(&held, 0, count, frame::NEWLINE) < count
+        find(&held, 0, count) < count
     }
 
     // A step through a lump that is no longer than it may be.

@@ -1,4 +1,6 @@
 // The controller's request call: a packet goes in, and a reply comes out; the slot is written as the upload rules say.
+#![tactic(auto)]
+
 ghost use Rattle.std.specs.Prelude.{◌≡◌, true, List, ℕ, ◌+◌, ◌≤◌, ◌<◌, length};
 ghost use Rattle.laws.specs.Parts.{Within};
 ghost use Rattle.session.specs.Session.{region_ok, layout_ok, session_ok, state_of, possible};
@@ -16,7 +18,7 @@ use session::{Layout, Session, Slot};
 use smp::Reply;
 
 // What the request call says.
-#[derive(Drop)]
+#[derive(Clone, Copy)]
 pub enum Answer {
     // A reply of this many bytes stands at the reply buffer's start.
     Replied(usize),
@@ -27,14 +29,14 @@ pub enum Answer {
 }
 
 // The call's answer, with the session record for the next call.
-#[derive(Drop)]
+#[derive(Clone, Copy)]
 pub struct Handled {
     pub answer: Answer,
     pub session: Session,
 }
 
 // What a request is answered with.
-#[derive(Drop)]
+#[derive(Clone, Copy)]
 pub enum Response {
     // A reply that its own words say.
     Reply(Reply),
@@ -43,7 +45,7 @@ pub enum Response {
 }
 
 // A request carried out: what it is answered with, and the session record after it.
-#[derive(Drop)]
+#[derive(Clone, Copy)]
 pub struct Done {
     pub response: Response,
     pub session: Session,

@@ -1,5 +1,7 @@
 // The frame's CRC-16 over a run of bytes, continued from where an earlier run left it: a byte at a time, by a table that is taken once a
 // call and lent to the step.
+#![tactic(auto)]
+
 mod table;
 
 ghost use Rattle.std.specs.Prelude.{◌≡◌};

@@ -1,4 +1,6 @@
 // Numbers in decimal, as text in ASCII.
+#![tactic(auto)]
+
 ghost use Rattle.std.specs.Prelude.{◌≡◌, [], ◌∷◌, ◌++◌, ◌+◌, ◌≤◌, length};
 ghost use Rattle.laws.specs.Bytes.{pasted};
 ghost use Rattle.cbor.specs.Inner.{Put};

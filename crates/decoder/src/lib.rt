@@ -1,10 +1,12 @@
 // Base64 from a text to a lent buffer, in one pass: a table is taken once a call and lent to a leaf that does one group.
+#![tactic(auto)]
+
 ghost use Rattle.std.specs.Prelude.{◌≡◌, ◌+◌, ◌*◌, ◌/◌, ◌≤◌, length, get_or};
 ghost use Rattle.strict_base64.specs.Base64.{value, pad};
 ghost use Rattle.decoder.specs.Inner.{Decodes, Values, Group, Groups, Last, final_at};
 
 // What a text decodes to: this many bytes, or it is not well formed.
-#[derive(Drop)]
+#[derive(Clone, Copy)]
 pub enum Decoded {
     Bytes(usize),
     Bad,

@@ -1,4 +1,6 @@
 // Base64 from bytes to a text in a lent buffer, in one pass: a table is taken once a call and lent to a leaf that does one group.
+#![tactic(auto)]
+
 ghost use Rattle.std.specs.Prelude.{◌≡◌, ◌+◌, ◌*◌, ◌/◌, ◌<◌, ◌≤◌, length};
 ghost use Rattle.laws.specs.Bytes.{pasted};
 ghost use Rattle.strict_base64.specs.Base64.{char};

@@ -1,5 +1,7 @@
 // Where a text stops being the beginning of well-formed Base64. The decoder says that a text is not well formed, this function where: it is
 // called for such texts alone.
+#![tactic(auto)]
+
 ghost use Rattle.std.specs.Prelude.{◌≡◌};
 ghost use Rattle.decoder.specs.Inner.{Values};
 ghost use Rattle.fault.specs.Fault.{Place, standing};

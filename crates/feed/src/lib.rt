@@ -1,4 +1,6 @@
 // Lines fed to a controller on a bench: each goes to the reader, and the packet that it completes to the request call.
+#![tactic(auto)]
+
 ghost use Rattle.std.specs.Prelude.{◌≡◌, List, ℕ, ◌≤◌, length, take};
 ghost use Rattle.feed.specs.Feed.{rc_in, hand_over_def, feed_line_def};
 
@@ -6,7 +8,7 @@ ghost use Rattle.feed.specs.Feed.{rc_in, hand_over_def, feed_line_def};
 const HALF: usize = 4096;
 
 // What is said of a line.
-#[derive(Drop)]
+#[derive(Clone, Copy)]
 pub struct Answer {
     // The refusal of the line, or of the packet that it completed, or 0.
     pub refusal: u32,

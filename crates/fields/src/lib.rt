@@ -1,4 +1,6 @@
 // The keys of a packet's map, by their names, and its fields: what has been read for each key, stored there and read there.
+#![tactic(auto)]
+
 ghost use Rattle.std.specs.Prelude.{◌≡◌, ◌+◌, ◌≤◌, length, take, drop};
 ghost use Rattle.laws.specs.Bytes.{same};
 ghost use Rattle.fields.specs.Keys.{key_of, type_of, type_for_def};
@@ -9,7 +11,7 @@ use cbor::Value;
 use laws::{Number, Run};
 
 // Whose map it is: what differs is which keys are known.
-#[derive(Drop)]
+#[derive(Clone, Copy)]
 pub enum Kind {
     Echo,
     // of a command without keys of its own: reset and the state read
@@ -20,7 +22,7 @@ pub enum Kind {
 }
 
 // A known key, or another.
-#[derive(Drop)]
+#[derive(Clone, Copy)]
 pub enum Key {
     Text,
     Data,

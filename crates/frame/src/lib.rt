@@ -1,4 +1,5 @@
 // The form of a line, in numbers that the reader and the sender share: each is that of its definition in specs/Line.antt.
+#![tactic(auto)]
 
 // The longest line, with its marker and its end.
 pub const LONGEST: usize = 127;

@@ -1,4 +1,6 @@
 // A run of packets, each taken by the request call. The theorems over any history of calls are in specs/, their proofs in proofs/.
+#![tactic(auto)]
+
 ghost use Rattle.std.specs.Prelude.{◌≡◌, ◌-◌, ◌≤◌, length};
 ghost use Rattle.laws.specs.Parts.{part_of};
 ghost use Rattle.session.specs.Session.{state_of};

@@ -1,4 +1,6 @@
 // The host's echo, reset and erase requests, written into a lent buffer, and what every request writer shares.
+#![tactic(auto)]
+
 ghost use Rattle.std.specs.Prelude.{◌≡◌, ◌+◌, ◌-◌, ◌≤◌, length};
 ghost use Rattle.laws.specs.Bytes.{pasted};
 ghost use Rattle.cbor.specs.Inner.{Put};
@@ -10,7 +12,7 @@ use refusal::Refusal;
 use smp::Header;
 
 // What a request writer says.
-#[derive(Drop)]
+#[derive(Clone, Copy)]
 pub enum Written {
     // A packet of this many bytes stands at the buffer's start.
     Packet(usize),

@@ -1,4 +1,6 @@
 // The host's calls on numbers: requests are written, and how long they are is told in 32 bits.
+#![tactic(auto)]
+
 ghost use Rattle.std.specs.Prelude.{◌≡◌};
 ghost use Rattle.host.specs.Write.{write_echo_def, write_reset_def, write_erase_def};
 ghost use Rattle.uploads.specs.Upload.{write_upload_def};

@@ -1,17 +1,19 @@
 // An image in a region of memory: whether there is a valid one, its version, and where its hash stands.
+#![tactic(auto)]
+
 ghost use Rattle.std.specs.Prelude.{◌≡◌, ◌+◌, ◌^◌, ◌≤◌, ◌<◌, length};
 ghost use Rattle.images.specs.Image.{le16_at, le32_at, header_ok, area_after_def, area_in_def, entries, hash_of, image_in_def};
 ghost use Rattle.images.specs.Inner.{noted, found_at};
 
 // Where the entries of an image's TLV area stand in its region.
-#[derive(Drop)]
+#[derive(Clone, Copy)]
 pub enum Area {
     Absent,
     At { start: usize, stop: usize },
 }
 
 // A region's image: its version, and where its hash stands in the region.
-#[derive(Drop)]
+#[derive(Clone, Copy)]
 pub enum Image {
     // There is no valid one.
     Absent,
@@ -24,7 +26,7 @@ pub enum Image {
 }
 
 // What the SHA-256 entries of an area come to, as far as it was read.
-#[derive(Drop)]
+#[derive(Clone, Copy)]
 pub enum Found {
     Nothing,
     // One of 32 bytes, which start here.

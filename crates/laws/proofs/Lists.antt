@@ -64,6 +64,12 @@ copied_part m at x ys e =
     let d = take (length m - at) (drop at m) in
     part_pasted m at x ys (e ∙ ap (λ (l : List ℕ). l ++ drop (length x) d) (take-length x) ∙ sym (pasted_start d x))
 
+-- so is a part of just that many bytes, written over
+pub filled_part : (m : List ℕ) (at : ℕ) (x ys : List ℕ) → ys ≡ x → take at m ++ (ys ++ drop (at + length x - at) (drop at m)) ≡ pasted m at x
+filled_part m at x ys e =
+    let k : at + length x - at ≡ length x = omega arith in
+    rw (k, e, drop-drop (length x) at m) (sym (pasted_is m at x))
+
 -- a list in front of another, cut where it ends or later
 pub take_past : (p q : List ℕ) (n : ℕ) → length p ≤ n → take n (p ++ q) ≡ p ++ take (n - length p) q
 take_past p q n h =

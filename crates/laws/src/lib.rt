@@ -1,17 +1,19 @@
 // What several layers need and none owns: choices, lists of bytes and their laws (specs/, proofs/), what a map may leave out, and the
 // functions on slices that everyone calls.
+#![tactic(auto)]
+
 ghost use Rattle.std.specs.Prelude.{◌≡◌, ◌+◌, ◌≤◌, ◌<◌, length, get_or, replicate};
 ghost use Rattle.laws.specs.Bytes.{pasted, same, be16};
 
 // A number that may be left out.
-#[derive(Drop)]
+#[derive(Clone, Copy)]
 pub enum Number {
     Absent,
     Is(u64),
 }
 
 // A run of bytes that may be left out: where it starts among those that it was read from, and its length.
-#[derive(Drop)]
+#[derive(Clone, Copy)]
 pub enum Run {
     Absent,
     At { start: usize, len: usize },
@@ -22,7 +24,7 @@ pub fn put(buf: &mut [u8], at: usize, src: &[u8])
     requires { at + length src.now ≤ length buf.old }
     ensures { buf.new ≡ pasted buf.old at src.now }
 {
-    bytes::copy(src, &mut buf[at..]);
+    buf[at..at + src.len()].copy_from_slice(src);
 }
 
 // Writes n into two bytes of buf from place at on, the high one first; the other bytes of buf stay.
@@ -63,5 +65,5 @@ pub fn wide(b: u8) -> usize
 pub fn equal(a: &[u8], b: &[u8]) -> bool
     ensures { result ≡ same a.now b.now }
 {
-    check::same(a, b)
+    a == b
 }

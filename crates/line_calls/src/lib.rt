@@ -1,4 +1,6 @@
 // The calls of the line on arrays of numbers: a line is taken, bytes are collected into lines, a frame is sent.
+#![tactic(auto)]
+
 ghost use Rattle.std.specs.Prelude.{◌≡◌};
 ghost use Rattle.line_calls.specs.Calls.{collected_c, took_line, sent_frame};
 

@@ -1,4 +1,6 @@
 // The list of the images in both slots, written as a reply.
+#![tactic(auto)]
+
 ghost use Rattle.std.specs.Prelude.{◌≡◌, true, ◌+◌, ◌≤◌, ◌<◌, length};
 ghost use Rattle.laws.specs.Parts.{part_of};
 ghost use Rattle.cbor.specs.Inner.{Put};

@@ -1,4 +1,6 @@
 // The one walk over a packet's map: its known keys become fields, its other keys are skipped, and anything else is malformed.
+#![tactic(auto)]
+
 ghost use Rattle.std.specs.Prelude.{◌≡◌};
 ghost use Rattle.cbor.specs.Read.{item_at};
 ghost use Rattle.fields.specs.Fields.{nothing};
@@ -9,7 +11,7 @@ use cbor::{Head, Item, Value};
 use fields::{Key, Kind};
 
 // How far a walk came: the place after what it read, or that this is malformed.
-#[derive(Drop)]
+#[derive(Clone, Copy)]
 pub enum Walked {
     To(usize),
     Malformed,

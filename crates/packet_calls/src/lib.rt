@@ -1,4 +1,6 @@
 // The calls of packets on arrays of numbers: configuring, a request is taken, a reply is read.
+#![tactic(auto)]
+
 ghost use Rattle.std.specs.Prelude.{◌≡◌};
 ghost use Rattle.packet_calls.specs.Calls.{handled_c, configured_c, read_c};
 

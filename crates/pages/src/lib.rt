@@ -1,4 +1,6 @@
 // The counts beside the slot: for each page of 4,096 bytes how many of them lie below the session's place.
+#![tactic(auto)]
+
 ghost use Rattle.std.specs.Prelude.{◌≡◌, true, false, ℕ, ◌+◌, ◌*◌, ◌-◌, ◌≤◌, ◌<◌, min, length};
 ghost use Rattle.pages.specs.Pages.{page_size, pages_of_def, counted, agrees, stretches};
 ghost use Rattle.pages.specs.Inner.{AllAre, OneIsNot};

@@ -1,5 +1,7 @@
 // The C interface: both ends of the port as functions on numbers, byte slices and small arrays of numbers. include/belagunthi.h declares
 // them, with each promise beside its call.
+#![tactic(auto)]
+
 ghost use Rattle.std.specs.Prelude.{◌≡◌};
 ghost use Rattle.line_calls.specs.Calls.{collected_c, took_line, sent_frame};
 ghost use Rattle.packet_calls.specs.Calls.{handled_c, configured_c, read_c};

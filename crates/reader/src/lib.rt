@@ -1,4 +1,6 @@
 // The frame reader: one line at a time becomes "more", a packet, or one refusal.
+#![tactic(auto)]
+
 ghost use Rattle.std.specs.Prelude.{◌≡◌, List, ℕ, ◌+◌, ◌-◌, ◌≤◌, ◌<◌, length, get_or, take};
 ghost use Rattle.laws.specs.Bytes.{of_be16};
 ghost use Rattle.crc.specs.Crc.{crc_of_def};
@@ -13,7 +15,7 @@ use decoder::Decoded;
 use refusal::Refusal;
 
 // The reader's record between two lines.
-#[derive(Drop)]
+#[derive(Clone, Copy)]
 pub enum Reader {
     // No packet is open.
     Idle,
@@ -26,7 +28,7 @@ pub enum Reader {
 }
 
 // What the reader says to a line.
-#[derive(Drop)]
+#[derive(Clone, Copy)]
 pub enum Answer {
     // The line was taken, and the packet wants more.
     More,
@@ -39,7 +41,7 @@ pub enum Answer {
 }
 
 // The reader's answer, with its record for the next line.
-#[derive(Drop)]
+#[derive(Clone, Copy)]
 pub struct Taken {
     pub answer: Answer,
     pub reader: Reader,
@@ -184,7 +186,7 @@ fn take_bytes(total: usize, come: usize, first: u8, x: &[u8], p: &mut [u8]) -> T
 }
 
 // What a frame's raw bytes go on with.
-#[derive(Drop)]
+#[derive(Clone, Copy)]
 enum Start {
     // Body and CRC bytes of a packet, from this raw byte on, which come on top of `come` others.
     At {

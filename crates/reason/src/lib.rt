@@ -1,10 +1,12 @@
 // Why a request is answered with an rc other than 0, and the rc of each reason. Whoever finds a fault names the reason; the number is given
 // here alone.
+#![tactic(auto)]
+
 ghost use Rattle.std.specs.Prelude.{◌≡◌};
 ghost use Rattle.reason.specs.Rc.{rc_of_def};
 
 // What is wrong with a request.
-#[derive(Drop)]
+#[derive(Clone, Copy)]
 pub enum Reason {
     // Its op, group and command are no command together.
     UnknownCommand,

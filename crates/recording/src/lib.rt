@@ -1,12 +1,14 @@
 // Recordings of the line: a preface, records and a trailer that points back to them. What stands at a place of the file, where the first record
 // stands, and a reader that keeps the lent file and its place in it.
+#![tactic(auto)]
+
 ghost use Rattle.std.specs.Prelude.{◌≡◌, ◌+◌, ◌^◌, ◌≤◌, ◌<◌, length};
 ghost use Rattle.recording.specs.Recording.{be16_at, be32_at, said, line_at, record_at_def, step_at_def, is_some, entries_from, begun, first_record_def};
 
 use refusal::Refusal;
 
 // What begins at a place of a file.
-#[derive(Drop)]
+#[derive(Clone, Copy)]
 pub enum Found {
     // A whole record: whether its line goes to the controller, where the line starts in the file, and its length.
     Whole {
@@ -19,7 +21,7 @@ pub enum Found {
 }
 
 // What stands at a place of a recording.
-#[derive(Drop)]
+#[derive(Clone, Copy)]
 pub enum Step {
     // A record: whether its line goes to the controller, where the line starts in the file, and its length. The next record stands behind it.
     Record {
@@ -34,7 +36,7 @@ pub enum Step {
 }
 
 // Where the records of a file begin.
-#[derive(Drop)]
+#[derive(Clone, Copy)]
 pub enum First {
     // The first record's place, and how many there are.
     At { place: usize, number: usize },
@@ -179,7 +181,7 @@ pub fn first_record(file: &[u8]) -> First
 }
 
 // The recording reader: the lent file, and its place in it.
-#[derive(Drop)]
+#[derive(Clone, Copy)]
 pub struct Recording<'a> {
     pub file: &'a [u8],
     pub at: usize,

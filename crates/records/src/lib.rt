@@ -1,4 +1,6 @@
 // The records and answers of both ends as arrays of numbers, and back.
+#![tactic(auto)]
+
 ghost use Rattle.std.specs.Prelude.{◌≡◌, List, ◌≤◌, ℕ, length};
 ghost use Rattle.fields.specs.Fields.{flag_number_def};
 ghost use Rattle.frame.specs.Line.{longest};

@@ -1,9 +1,11 @@
 // The refusals, one for each row of the table "What the numbers mean", and the number that the table gives each.
+#![tactic(auto)]
+
 ghost use Rattle.std.specs.Prelude.{◌≡◌};
 ghost use Rattle.refusal.specs.Number.{number_of};
 
 // Why a call refused its input.
-#[derive(Drop)]
+#[derive(Clone, Copy)]
 pub enum Refusal {
     // The slot region, the session record or the collector's record is impossible.
     Impossible,

@@ -1,4 +1,6 @@
 // The replay of a recording: its lines to the controller go to a fresh one, one after the other, and what is said of each is kept.
+#![tactic(auto)]
+
 ghost use Rattle.std.specs.Prelude.{◌≡◌, List, ◌∷◌, ◌+◌, ◌*◌, ◌≤◌, length};
 ghost use Rattle.laws.specs.Bytes.{pasted};
 ghost use Rattle.recording.specs.Recording.{Entry};

@@ -1,4 +1,6 @@
 // The host's reply reader: a packet read as a reply.
+#![tactic(auto)]
+
 ghost use Rattle.std.specs.Prelude.{◌≡◌};
 ghost use Rattle.rules.specs.Plan.{above, largest};
 ghost use Rattle.replies.specs.Read.{said, or_zero, reply_with_def, values_of, is_reply_def, read_reply_def};
@@ -9,7 +11,7 @@ use refusal::Refusal;
 use smp::Header;
 
 // A reply: its header fields, its return code, and its offset and text where they are there.
-#[derive(Drop)]
+#[derive(Clone, Copy)]
 pub struct Reply {
     pub header: Header,
     pub rc: u64,
@@ -18,7 +20,7 @@ pub struct Reply {
 }
 
 // A packet, read as a reply.
-#[derive(Drop)]
+#[derive(Clone, Copy)]
 pub enum Heard {
     Reply(Reply),
     Refused(Refusal),

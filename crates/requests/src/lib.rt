@@ -1,4 +1,6 @@
 // Requests: a packet read as one, its map's fields as values.
+#![tactic(auto)]
+
 ghost use Rattle.std.specs.Prelude.{◌≡◌};
 ghost use Rattle.requests.specs.Request.{image_read_def, command_of_def, upload_of_def, request_of_def, is_request_def, read_request_def};
 
@@ -9,7 +11,7 @@ use rules::Upload;
 use smp::Header;
 
 // What a request's op, group and command ask for together.
-#[derive(Drop)]
+#[derive(Clone, Copy)]
 pub enum Command {
     Echo,
     Reset,
@@ -20,7 +22,7 @@ pub enum Command {
 }
 
 // A request as a value; strings are named by their places in the packet.
-#[derive(Drop)]
+#[derive(Clone, Copy)]
 pub enum Request {
     // To be answered with the rc of this reason, and nothing done.
     Answer(Reason),
@@ -33,7 +35,7 @@ pub enum Request {
 }
 
 // A packet, read as a request.
-#[derive(Drop)]
+#[derive(Clone, Copy)]
 pub enum Reading {
     Is(Request),
     NotARequest,

@@ -13,7 +13,7 @@ use Rattle.laws.specs.Table.{tab}
 use Rattle.laws.proofs.Choice.{pick_yes, pick_case}
 use Rattle.strict_base64.specs.Base64.{char, pad, encode}
 use Rattle.frame.specs.Line.{longest, newline, initial, partial, frame}
-use Rattle.bytes.specs.Bytes.{index_after, index_of}
+use Rattle.collector.specs.Search.{index_after, index_of}
 use Rattle.collector.specs.Collector as collecting
 use Rattle.collector.specs.Lumps.{cut, handing, gathered, stream, joined}
 use Rattle.collector.proofs.Laws.{ended_over, ended_line}

@@ -1,5 +1,7 @@
 // Sender and reader together: one function that sends a body's frames and takes them, whose promise ends in the round trip's own conclusion. The
 // theorems over the two calls' definitions are in specs/, their proofs in proofs/.
+#![tactic(auto)]
+
 ghost use Rattle.std.specs.Prelude.{◌≡◌, true, ◌<◌, length};
 ghost use Rattle.laws.specs.Bytes.{Bytes, pasted};
 ghost use Rattle.reader.specs.Reader.{outcome, take_line_def};

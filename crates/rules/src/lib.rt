@@ -1,4 +1,6 @@
 // The upload rules: what an upload request comes to, by the checks in their order.
+#![tactic(auto)]
+
 ghost use Rattle.std.specs.Prelude.{◌≡◌, List, true, not, ℕ, ◌-◌, ◌≤◌, ltb, eqb};
 ghost use Rattle.laws.specs.Choice.{both};
 ghost use Rattle.laws.specs.Bytes.{same};
@@ -11,7 +13,7 @@ use reason::Reason;
 use session::{Session, Slot};
 
 // An upload request: the offset, where its data stands in the bytes that it came in, and the keys that count at offset 0.
-#[derive(Drop)]
+#[derive(Clone, Copy)]
 pub struct Upload {
     pub off: u64,
     pub start: usize,
@@ -23,7 +25,7 @@ pub struct Upload {
 }
 
 // What an upload request comes to.
-#[derive(Drop)]
+#[derive(Clone, Copy)]
 pub enum Plan {
     // Refused for this reason; all stays.
     Refuse(Reason),

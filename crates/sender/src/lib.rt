@@ -1,4 +1,6 @@
 // The frame sender: frame number k of a body, as a line at the start of a lent buffer.
+#![tactic(auto)]
+
 ghost use Rattle.std.specs.Prelude.{◌≡◌, ◌+◌, ◌-◌, ◌≤◌, ◌<◌, length};
 ghost use Rattle.laws.specs.Bytes.{pasted};
 ghost use Rattle.strict_base64.specs.Base64.{encode};
@@ -9,7 +11,7 @@ ghost use Rattle.sender.specs.Inner.{head_of, to_of, from_of, middle_of, tail_of
 use refusal::Refusal;
 
 // What the sender says to a body and a frame number.
-#[derive(Drop)]
+#[derive(Clone, Copy)]
 pub enum Sent {
     // The frame stands at the buffer's start: its length, and how many frames the body takes.
     Frame { length: usize, count: usize },

@@ -1,4 +1,6 @@
 // The number after a sequence number.
+#![tactic(auto)]
+
 ghost use Rattle.std.specs.Prelude.{◌≡◌};
 ghost use Rattle.sequence.specs.Sequence.{next_sequence_def};
 

@@ -1,4 +1,6 @@
 // The memory's two regions and the session record: which are possible, and configuring.
+#![tactic(auto)]
+
 ghost use Rattle.std.specs.Prelude.{◌≡◌, ◌+◌, ◌^◌, ◌<◌};
 ghost use Rattle.laws.specs.Choice.{both};
 ghost use Rattle.session.specs.Session.{lies_in_def, region_ok, overlapping, layout_ok, session_ok, closed, said, configured};
@@ -6,21 +8,21 @@ ghost use Rattle.session.specs.Session.{lies_in_def, region_ok, overlapping, lay
 use refusal::Refusal;
 
 // A slot: where it starts in the memory, and its size.
-#[derive(Drop)]
+#[derive(Clone, Copy)]
 pub struct Slot {
     pub start: usize,
     pub size: usize,
 }
 
 // The memory's two regions: slot 0, which is only read, and slot 1, the upload slot.
-#[derive(Drop)]
+#[derive(Clone, Copy)]
 pub struct Layout {
     pub slot0: Slot,
     pub slot1: Slot,
 }
 
 // The session record. Of a closed one nothing else counts; the calls give it as zeros.
-#[derive(Drop)]
+#[derive(Clone, Copy)]
 pub struct Session {
     pub running: bool,
     // how long the whole image is to be
@@ -32,7 +34,7 @@ pub struct Session {
 }
 
 // What configuring gave.
-#[derive(Drop)]
+#[derive(Clone, Copy)]
 pub enum Configured {
     Ready(Layout),
     Refused(Refusal),

@@ -1,4 +1,6 @@
 // The most data that an upload request can carry, by lengths alone. The theorems on what each writer says are in specs/, their proofs in proofs/.
+#![tactic(auto)]
+
 ghost use Rattle.std.specs.Prelude.{◌≡◌, ◌-◌};
 ghost use Rattle.sizes.specs.Size.{first_over_def, most_in_def, most_past_def, most_first_def, most_data_def};
 

@@ -1,4 +1,6 @@
 // The upload slot in the lent memory: what an upload request comes to is carried out there, and the slot is erased.
+#![tactic(auto)]
+
 ghost use Rattle.std.specs.Prelude.{◌≡◌, List, true, false, ℕ, ◌+◌, ◌^◌, ◌≤◌, ◌<◌, length};
 ghost use Rattle.laws.specs.Parts.{is_there_def, Within};
 ghost use Rattle.session.specs.Session.{region_ok, session_ok, State, state_of};
@@ -46,7 +48,7 @@ fn append(slot: Slot, session: Session, memory: &mut [u8], data: &[u8]) -> Sessi
         (state_of memory.old tag session) }
 {
     let at = slot.start + session.place;
-    bytes::copy(data, &mut memory[at..]);
+    laws::put(memory, at, data);
     grow(session, data.len())
 }
 
@@ -61,7 +63,7 @@ fn kept_tag(source: &[u8], sha: Run) -> [u8; 32]
         return tag;
     };
     let end = start + len;
-    bytes::copy(&source[start..end], &mut tag);
+    tag.copy_from_slice(&source[start..end]);
     tag
 }
 
@@ -84,7 +86,7 @@ fn start(slot: Slot, len: usize, tagged: bool, memory: &mut [u8], data: &[u8]) -
 {
     clear(slot, memory);
     let a = slot.start;
-    bytes::copy(data, &mut memory[a..]);
+    laws::put(memory, a, data);
     Session {
         running: true,
         length: len,

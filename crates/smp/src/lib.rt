@@ -1,4 +1,6 @@
 // A packet of the Simple Management Protocol: its header, and replies written.
+#![tactic(auto)]
+
 ghost use Rattle.std.specs.Prelude.{◌≡◌, not, [], ◌∷◌, ◌++◌, ◌+◌, ◌-◌, ◌≤◌, ◌<◌, ltb, length, drop};
 ghost use Rattle.laws.specs.Bytes.{pasted, of_be16};
 ghost use Rattle.cbor.specs.Inner.{Put};
@@ -11,7 +13,7 @@ ghost use Rattle.smp.specs.Inner.{Written};
 use reason::Reason;
 
 // The eight bytes before a packet's map.
-#[derive(Drop)]
+#[derive(Clone, Copy)]
 pub struct Header {
     pub op: u8,
     pub flags: u8,
@@ -22,7 +24,7 @@ pub struct Header {
 }
 
 // What a reply says.
-#[derive(Drop)]
+#[derive(Clone, Copy)]
 pub enum Reply {
     // A refusal for this reason.
     Refused(Reason),

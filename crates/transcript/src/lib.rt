@@ -1,4 +1,6 @@
 // The text of a replay: a line for each answer, and the session at the end.
+#![tactic(auto)]
+
 ghost use Rattle.std.specs.Prelude.{◌≡◌, ◌+◌, ◌*◌, ◌≤◌, ◌<◌, leb, length};
 ghost use Rattle.cbor.specs.Inner.{Put};
 ghost use Rattle.transcript.specs.Transcript.{rc_text, line_text, end_text, transcript, said, written};
@@ -13,7 +15,7 @@ pub const NUMBERS: usize = 4;
 const MORE: usize = 19;
 
 // What writing the text gives.
-#[derive(Drop)]
+#[derive(Clone, Copy)]
 pub enum Text {
     // Its length: it stands at the output's start.
     Is(usize),

@@ -1,5 +1,7 @@
 // Runs the published CRC and Base64 vectors through the proved functions and writes what they give, a line each. What is written is
 // compared with the file stdout beside src/, which has the published values.
+#![tactic(auto)]
+
 ghost use Rattle.std.specs.Prelude.{◌≤◌, length};
 
 use decoder::Decoded;

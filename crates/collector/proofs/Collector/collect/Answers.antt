@@ -1,0 +1,32 @@
+-- `collector::Collector::collect` meets its contract: refusals 1 and 12, then the step.
+-- Assumes nothing.
+use mathlib.Core.Path.{sym, ◌∙◌}
+use native.Mathlib.Omega.{arith}
+use borrow.Author.Rules.{rules}
+use Rattle.collector.proofs.Laws.{possible_count, collect_impossible, collect_long, collect_steps}
+use Rattle.std.proofs.Common.{◌≡◌, ◌+◌, ◌≤◌, length, take, drop, ℕ, ◌-◌, ◌*◌, ◌<◌, ◌/◌, ◌%◌, Bool, true, false, nat_eq, nat_lt, List, [], ◌∷◌, ◌++◌, slice_index_or, slice_set, bit_and, bit_or, Fits, w8, w32, w64, Bor, MutBor}
+use Rattle.frame.specs.Line.{longest, newline}
+use Rattle.collector.specs.Search.{slice, index_of}
+use Rattle.collector.specs.Collector.{most, longest_lump, before, has_newline, impossible, nothing, empty, longer, ended, said, saying, outcome, stepped, collect}
+use Rattle.collector.proofs.Collector.collect.Goals as goal
+
+pub returns-then-is_impossible : goal.returns-then-is_impossible
+returns-then-is_impossible c = sym (collect_impossible _ _ _ _ (sym c.is_impossible.ensures ∙ c.if-is_impossible.true))
+
+pub returns-then-lump-gt-LONGEST_LUMP : goal.returns-then-lump-gt-LONGEST_LUMP
+returns-then-lump-gt-LONGEST_LUMP c = sym (collect_long _ _ _ _ (sym c.is_impossible.ensures ∙ c.if-is_impossible.false) c.if-lump-gt-LONGEST_LUMP.true)
+
+pub step-requires : goal.step-requires
+step-requires c = (
+  search rules,
+  possible_count _ (sym c.is_impossible.ensures ∙ c.if-is_impossible.false),
+  omega
+      (arith, c.if-lump-gt-LONGEST_LUMP.false),
+  c.step-arg-1.given.0.1,
+)
+
+pub returns : goal.returns
+returns c =
+    c.step.ensures ∙ sym
+    (collect_steps _ _ _ _ (sym c.is_impossible.ensures ∙ c.if-is_impossible.false)
+    (omega (arith, c.if-lump-gt-LONGEST_LUMP.false)))

@@ -1,0 +1,28 @@
+-- `map::map_at` meets its contract: the head of a map begins the walk.
+-- Assumes nothing.
+use mathlib.Core.Path.{sym, ◌∙◌}
+use Rattle.map.proofs.Ways.{map_bad, map_other, map_pairs, finds_bad, finds_by}
+use borrow.Author.Rules.{rules}
+use Rattle.std.proofs.Common.{◌≡◌, ℕ, ◌+◌, ◌-◌, ◌*◌, ◌<◌, ◌≤◌, length, ◌/◌, ◌%◌, Bool, true, false, nat_eq, nat_lt, List, [], ◌∷◌, ◌++◌, slice_index_or, slice_set, bit_and, bit_or, Fits, w8, w32, w64, Bor, MutBor}
+use Rattle.cbor.specs.Read.{item_at}
+use Rattle.fields.specs.Fields.{nothing}
+use Rattle.map.specs.Walk.{entered, valued, pair_at, pairs, map_at_def, map_from_def}
+use Rattle.map.specs.Inner.{Finds, Reads}
+use Rattle.map.proofs.map_at.Goals as goal
+
+pub returns-in_default : goal.returns-in_default
+returns-in_default c =
+    let a = c.args in
+    finds_bad (map_bad a.kind a.s.now a.from a.f.now (sym c.head_at-head.ensures ∙ c.in_default.is))
+
+pub returns-then-major-eq5 : goal.returns-then-major-eq5
+returns-then-major-eq5 c =
+    let a = c.args in
+    let e = sym c.head_at-head.ensures ∙ c.in-Is.is in
+    finds_by (map_pairs a.kind a.s.now a.from a.f.now c.in-Is.major c.in-Is.argument c.in-Is.next e c.if-major-eq5.true) c.walk.ensures
+
+pub returns : goal.returns
+returns c =
+    let a = c.args in
+    let e = sym c.head_at-head.ensures ∙ c.in-Is.is in
+    finds_bad (map_other a.kind a.s.now a.from a.f.now c.in-Is.major c.in-Is.argument c.in-Is.next e c.if-major-eq5.false)

@@ -1,0 +1,42 @@
+-- `reader::take_bytes` meets its contract: its tests are those of the definition, in the same order.
+-- Assumes nothing.
+use mathlib.Core.Path.{sym, ap₂, ◌∙◌}
+use mathlib.Core.List.{List}
+use Prim.Native.Nat.{ℕ}
+use native.Mathlib.Omega.{arith}
+use Rattle.reader.specs.declared.Reader.{Reader}
+use Rattle.reader.specs.Reader.{Outcome, more}
+use Rattle.reader.proofs.Laws.{absorb_short, absorb_many, absorb_more, absorb_last}
+use borrow.Author.Rules.{rules}
+use Rattle.std.proofs.Common.{◌≡◌, ◌+◌, ◌-◌, ◌≤◌, ◌<◌, length, get_or, take, ◌*◌, ◌/◌, ◌%◌, Bool, true, false, nat_eq, nat_lt, [], ◌∷◌, ◌++◌, slice_set, bit_and, bit_or, Fits, w8, w32, w64, Bor, MutBor}
+use Rattle.laws.specs.Bytes.{of_be16}
+use Rattle.crc.specs.Crc.{crc_of_def}
+use Rattle.strict_base64.specs.Base64.{decode}
+use Rattle.decoder.specs.Inner.{Decodes}
+use Rattle.frame.specs.Line.{longest, raw_most, begins_with, text_of}
+use Rattle.reader.specs.Reader.{outcome, crc_bytes, filled, waiting, completed, absorb, begin, resume, framed, place_in, decoded, take_line_def}
+use Rattle.reader.specs.Inner.{Starts}
+use Rattle.reader.proofs.take_bytes.Goals as goal
+
+pub returns-then-p-body : goal.returns-then-p-body
+returns-then-p-body c =
+    let a = c.args in
+    sym (absorb_short a.total a.come a.first a.x.now a.p.now (omega arith))
+
+pub returns-then-total-there : goal.returns-then-total-there
+returns-then-total-there c =
+    let a = c.args in
+    sym (absorb_many a.total a.come a.first a.x.now a.p.now (omega arith) (omega arith))
+
+pub returns-then-there-total : goal.returns-then-there-total
+returns-then-there-total c =
+    let a = c.args in
+    let wanting : Reader → List ℕ → Outcome = λ r p. record { says = more; reader = r; buffer = p } in
+    ap₂ wanting c.wait-record.ensures c.fill.ensures
+    ∙ sym (absorb_more a.total a.come a.first a.x.now a.p.now (omega arith) (omega arith))
+
+pub returns : goal.returns
+returns c =
+    let a = c.args in
+    c.complete.ensures
+    ∙ sym (absorb_last a.total a.come a.first a.x.now a.p.now (omega arith) (omega arith) (omega arith))

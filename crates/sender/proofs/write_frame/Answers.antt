@@ -1,0 +1,32 @@
+-- `sender::write_frame` meets its contract: the raw bytes of the frame stand at the start of the array, and make its line.
+-- Assumes nothing.
+use mathlib.Core.Path.{◌≡◌, sym, ap, ◌∙◌}
+use mathlib.Core.List.{List}
+use Prim.Native.Nat.{ℕ}
+use native.Mathlib.Omega.{arith}
+use lib.ListN.{length, take, drop, replicate, length-take}
+use lib.Seq.{take_at}
+use Rattle.laws.specs.Bytes.{pasted}
+use Rattle.laws.proofs.Lists.{pasted_start}
+use Rattle.frame.specs.Line.{raw_most, frame}
+use Rattle.sender.specs.Sender.{piece_of, marker_of, frame_of}
+use borrow.Author.Rules.{rules}
+use Rattle.std.proofs.Common.{◌+◌, ◌-◌, ◌≤◌, ◌<◌, ◌*◌, ◌/◌, ◌%◌, Bool, true, false, nat_eq, nat_lt, [], ◌∷◌, ◌++◌, slice_index_or, slice_set, bit_and, bit_or, Fits, w8, w32, w64, Bor, MutBor}
+use Rattle.strict_base64.specs.Base64.{encode}
+use Rattle.frame.specs.Line.{longest, longest_text}
+use Rattle.sender.specs.Sender.{frame_count_def, start_of, outcome, send_frame_def}
+use Rattle.sender.specs.Inner.{head_of, to_of, from_of, middle_of, tail_of}
+use Rattle.sender.proofs.write_frame.Goals as goal
+
+pub returns : goal.returns
+unfolding frame_of
+returns c =
+    let a = c.args in
+    let n = c.put_piece-n.result in
+    let last = c.put_piece-n.new.raw in
+    let x = piece_of a.body.now a.k in
+    let part : take n last ≡ x = ap (λ (l : List ℕ). take n l) (c.put_piece-n.ensures.1 ∙ pasted_start (replicate raw_most 0) x) ∙ take_at x
+    (drop (length x) (replicate raw_most 0)) n (sym c.put_piece-n.ensures.0) in (
+      c.put_line.ensures.0 ∙ ap (λ (l : List ℕ). length (frame (marker_of a.k) l)) part,
+      c.put_line.ensures.1 ∙ ap (λ (l : List ℕ). pasted a.out.now 0 (frame (marker_of a.k) l)) part,
+    )
