@@ -1,0 +1,63 @@
+-- `host::write_echo` meets its contract: a text that is too long is refused before anything is written; no sum wraps, as a slice is below 2^63 bytes.
+-- Assumes nothing.
+use mathlib.Core.Path.{sym, ◌∙◌}
+use native.Mathlib.Omega.{arith}
+use lib.ListN.{length}
+use borrow.Author.Tests.{not-true, not-false}
+use Rattle.host.specs.Write.{echo_map, write_echo_def}
+use Rattle.host.proofs.Writing.{sendable_fits, request_sent, request_refused, head_most, echo_length}
+use borrow.Author.Rules.{rules}
+use Rattle.std.proofs.Common.{◌≡◌, ◌+◌, ◌-◌, ◌≤◌, ℕ, ◌*◌, ◌<◌, ◌/◌, ◌%◌, Bool, true, false, nat_eq, nat_lt, List, [], ◌∷◌, ◌++◌, slice_index_or, slice_set, bit_and, bit_or, Fits, w8, w32, w64, Bor, MutBor}
+use Rattle.laws.specs.Bytes.{pasted}
+use Rattle.cbor.specs.Inner.{Put}
+use Rattle.smp.specs.Packet.{header_bytes}
+use Rattle.host.specs.Write.{request_header, outcome, sendable, write_reset_def, write_erase_def}
+use Rattle.host.specs.Inner.{empty_request}
+use Rattle.host.proofs.write_echo.Goals as goal
+
+pub overflow_add-total : goal.overflow_add-total
+overflow_add-total c = omega (arith, c.head_len.ensures, head_most 0 (length c.args.text.now))
+
+pub overflow_add-total-2 : goal.overflow_add-total-2
+overflow_add-total-2 c = omega (arith, c.head_len.ensures, head_most 0 (length c.args.text.now), c.well_formed)
+
+pub returns-then-not-is_sendable : goal.returns-then-not-is_sendable
+unfolding write_echo_def
+returns-then-not-is_sendable c =
+    let a = c.args in
+    request_refused 0 a.sequence 0 (echo_map a.text.now) a.out.now _
+    (omega (arith, echo_length a.text.now, c.head_len.ensures))
+    (sym c.is_sendable.ensures ∙ c.if-not-is_sendable.true)
+
+pub put_echo-end-requires : goal.put_echo-end-requires
+unfolding write_echo_def
+put_echo-end-requires c =
+    let a = c.args in
+    omega (
+      arith,
+      echo_length a.text.now,
+      c.head_len.ensures,
+      sendable_fits _ _
+          (sym c.is_sendable.ensures ∙ c.if-not-is_sendable.false),
+    )
+
+pub put_front-requires : goal.put_front-requires
+unfolding write_echo_def
+put_front-requires c =
+    omega (
+      arith,
+      c.put_echo-end.ensures.place,
+      sendable_fits _ _
+          (sym c.is_sendable.ensures
+          ∙ c.if-not-is_sendable.false),
+    )
+
+pub returns : goal.returns
+unfolding write_echo_def
+returns c =
+    let a = c.args in
+    request_sent 0 a.sequence 0 (echo_map a.text.now) _ _ (omega
+    (arith, echo_length a.text.now, c.head_len.ensures))
+    (sym c.is_sendable.ensures
+    ∙ c.if-not-is_sendable.false)
+    c.put_echo-end.ensures c.put_front.ensures

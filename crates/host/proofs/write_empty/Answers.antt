@@ -1,0 +1,52 @@
+-- `host::write_empty` meets its contract: nine bytes are refused or written, the map and then the header in front of it.
+-- Assumes nothing.
+use mathlib.Core.Path.{sym, ◌∙◌}
+use native.Mathlib.Omega.{arith}
+use lib.Dec.{lit<}
+use borrow.Author.Tests.{not-true, not-false}
+use Rattle.cbor.specs.Write.{map_of}
+use Rattle.smp.proofs.Writing.{head_tiny}
+use Rattle.host.proofs.Writing.{sendable_fits, request_sent, request_refused}
+use borrow.Author.Rules.{rules}
+use Rattle.std.proofs.Common.{◌≡◌, ◌+◌, ◌-◌, ◌≤◌, length, ℕ, ◌*◌, ◌<◌, ◌/◌, ◌%◌, Bool, true, false, nat_eq, nat_lt, List, [], ◌∷◌, ◌++◌, slice_index_or, slice_set, bit_and, bit_or, Fits, w8, w32, w64, Bor, MutBor}
+use Rattle.laws.specs.Bytes.{pasted}
+use Rattle.cbor.specs.Inner.{Put}
+use Rattle.smp.specs.Packet.{header_bytes}
+use Rattle.host.specs.Write.{request_header, echo_map, outcome, sendable, write_echo_def, write_reset_def, write_erase_def}
+use Rattle.host.specs.Inner.{empty_request}
+use Rattle.host.proofs.write_empty.Goals as goal
+
+pub returns-then-not-is_sendable : goal.returns-then-not-is_sendable
+returns-then-not-is_sendable c =
+    let a = c.args in
+    request_refused a.group a.sequence 5 (map_of 0) a.out.now 9 (omega (arith, head_tiny 5 0 (lit< tt)))
+    (sym c.is_sendable.ensures ∙ c.if-not-is_sendable.true)
+
+pub put_head-end-requires : goal.put_head-end-requires
+put_head-end-requires c = (
+  lit< tt,
+  omega (
+    arith,
+    head_tiny 5 0 (lit< tt),
+    sendable_fits 9 _ (sym c.is_sendable.ensures
+        ∙ c.if-not-is_sendable.false),
+  ),
+)
+
+pub put_front-requires : goal.put_front-requires
+put_front-requires c =
+    omega (
+      arith,
+      c.put_head-end.ensures.place,
+      sendable_fits 9 _
+          (sym c.is_sendable.ensures
+          ∙ c.if-not-is_sendable.false),
+    )
+
+pub returns : goal.returns
+returns c =
+    let a = c.args in
+    request_sent a.group a.sequence 5 (map_of 0) 9 _ (omega (arith, head_tiny 5 0 (lit< tt)))
+    (sym c.is_sendable.ensures
+    ∙ c.if-not-is_sendable.false)
+    c.put_head-end.ensures c.put_front.ensures

@@ -1,0 +1,46 @@
+-- `requests::is_request` meets its contract: the length is tested first, then the op.
+-- Assumes nothing.
+use mathlib.Core.Path.{◌≡◌, refl}
+use mathlib.Core.Bool.{Bool, true, false, not}
+use lib.Dec.{eqb}
+use borrow.Author.Tests.{not-true, not-false, eq-eqb, ne_eqb}
+use Rattle.laws.proofs.Choice.{both_yes, both_no}
+use Rattle.requests.specs.Request.{is_request_def}
+use borrow.Author.Rules.{rules}
+use Rattle.std.proofs.Common.{ℕ, ◌+◌, ◌-◌, ◌*◌, ◌<◌, ◌≤◌, length, ◌/◌, ◌%◌, nat_eq, nat_lt, List, [], ◌∷◌, ◌++◌, slice_index_or, slice_set, bit_and, bit_or, Fits, w8, w32, w64, Bor, MutBor}
+use Rattle.requests.specs.Request.{image_read_def, command_of_def, upload_of_def, request_of_def, read_request_def}
+use Rattle.requests.proofs.is_request.Goals as goal
+
+-- `requests::is_request` meets its contract: the length is tested first, then the op.
+-- Assumes nothing.
+-- a test denied twice is the test
+not-twice : (b : Bool) → b ≡ not (not b)
+not-twice true = refl
+not-twice false = refl
+
+pub returns-then-not-sized : goal.returns-then-not-sized
+unfolding is_request_def
+returns-then-not-sized c = simp (← c.is_sized-sized.ensures, c.if-not-sized.true, both_no)
+
+pub returns-then-op-eq0 : goal.returns-then-op-eq0
+unfolding is_request_def
+returns-then-op-eq0 c =
+    simp (
+      ← c.is_sized-sized.ensures,
+      c.if-not-sized.false,
+      ← c.byte_at-op.ensures,
+      eq-eqb _ _ c.if-op-eq0.true,
+      both_yes,
+      both_no,
+    )
+
+pub returns : goal.returns
+unfolding is_request_def
+returns c =
+    simp (
+      ← c.is_sized-sized.ensures,
+      c.if-not-sized.false,
+      ← c.byte_at-op.ensures,
+      ne_eqb _ _ c.if-op-eq0.false,
+      both_yes,
+    ) (not-twice (eqb c.byte_at-op.result 2))

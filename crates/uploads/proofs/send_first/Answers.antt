@@ -1,0 +1,50 @@
+-- `uploads::send_first` meets its contract: a request that is too long is refused before anything is written.
+-- Assumes nothing.
+use mathlib.Core.Path.{sym, ◌∙◌}
+use native.Mathlib.Omega.{arith}
+use borrow.Author.Tests.{not-true, not-false}
+use Rattle.uploads.specs.Upload.{first_map}
+use Rattle.host.proofs.Writing.{sendable_fits, request_sent, request_refused}
+use borrow.Author.Rules.{rules}
+use Rattle.std.proofs.Common.{◌≡◌, false, ◌++◌, ◌+◌, ◌≤◌, length, ℕ, ◌-◌, ◌*◌, ◌<◌, ◌/◌, ◌%◌, Bool, true, nat_eq, nat_lt, List, [], ◌∷◌, slice_index_or, slice_set, bit_and, bit_or, Fits, w8, w32, w64, Bor, MutBor}
+use Rattle.cbor.specs.Inner.{Put}
+use Rattle.cbor.specs.Write.{bytes_of, text_of}
+use Rattle.host.specs.Write.{request_packet, outcome, put}
+use Rattle.uploads.specs.Upload.{later_map, odd_length, mis_sized_def, write_first_def, write_upload_def}
+use Rattle.uploads.specs.Inner.{first_pairs}
+use Rattle.uploads.proofs.send_first.Goals as goal
+
+pub returns-then-not-is_sendable : goal.returns-then-not-is_sendable
+returns-then-not-is_sendable c =
+    let a = c.args in
+    request_refused 1 a.sequence 1 (first_map a.«data».now a.size a.tag.now) a.out.now _ c.first_len-total.ensures
+    (sym c.is_sendable.ensures ∙ c.if-not-is_sendable.true)
+
+pub put_first-end-requires : goal.put_first-end-requires
+put_first-end-requires c =
+    let a = c.args in
+    omega (
+      arith,
+      c.first_len-total.ensures,
+      sendable_fits _ _ (sym c.is_sendable.ensures
+          ∙ c.if-not-is_sendable.false),
+    )
+
+pub put_front-requires : goal.put_front-requires
+put_front-requires c =
+    omega (
+      arith,
+      c.put_first-end.ensures.place,
+      sendable_fits _ _
+          (sym c.is_sendable.ensures
+          ∙ c.if-not-is_sendable.false),
+    )
+
+pub returns : goal.returns
+returns c =
+    let a = c.args in
+    request_sent 1 a.sequence 1 (first_map a.«data».now a.size a.tag.now) _ _
+    c.first_len-total.ensures
+    (sym c.is_sendable.ensures
+    ∙ c.if-not-is_sendable.false)
+    c.put_first-end.ensures c.put_front.ensures
