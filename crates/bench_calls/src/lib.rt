@@ -9,7 +9,7 @@ use transcript::Text;
 
 // Where the first record of a file stands and how many there are.
 pub fn first_numbers(file: &[u8], first: &mut [usize; 2]) -> u32
-    ensures* { λ r. ⌜ record { result = r; first = first.new } ≡ first_c file.now first.old ⌝ }
+    ensures { record { result = result; first = first.new } ≡ first_c file.now first.old }
 {
     match recording::first_record(file) {
         First::At { place, number } => {
@@ -34,7 +34,7 @@ fn kind_number(to_controller: bool) -> usize
 
 // The record at a place of a file.
 pub fn record_numbers(file: &[u8], at: usize, record: &mut [usize; 3]) -> u32
-    ensures* { λ r. ⌜ record { result = r; numbers = «record».new } ≡ record_c file.now at «record».old ⌝ }
+    ensures { record { result = result; numbers = «record».new } ≡ record_c file.now at «record».old }
 {
     match recording::read_at(file, at) {
         Step::Record {
@@ -63,8 +63,8 @@ pub fn transcript_numbers(
     out: &mut [u8],
     size: &mut usize,
 ) -> u32
-    ensures* { λ r. ⌜ record { result = r; out = out.new; size = size.new }
-        ≡ transcript_c answers.now count session.now out.old size.old ⌝ }
+    ensures { record { result = result; out = out.new; size = size.new }
+        ≡ transcript_c answers.now count session.now out.old size.old }
 {
     let last = records::session_from(session[0], session[1], session[2], session[3]);
     match transcript::write_transcript(answers, count, last, out) {

@@ -2,7 +2,7 @@
 #![tactic(auto)]
 
 ghost use Rattle.std.specs.Prelude.{◌≡◌, ◌+◌, ◌≤◌, length, take, drop};
-ghost use Rattle.frame.specs.Line.{longest, newline};
+ghost use Rattle.frame.specs.Line.{longest};
 ghost use Rattle.collector.specs.Search.{slice, index_of};
 ghost use Rattle.collector.specs.Collector.{most, longest_lump, before, has_newline, impossible, nothing, empty, longer, ended, said, saying, outcome, stepped, collect};
 
@@ -60,16 +60,16 @@ fn in_block(s: &[u8], i: usize) -> bool
     found
 }
 
-// Where the first 0A from place `from` on and before `end` stands, or `end` where there is none.
-fn find(s: &[u8], from: usize, end: usize) -> usize
+// Where the first b from place `from` on and before `end` stands, or `end` where there is none.
+fn find(s: &[u8], from: usize, end: usize, b: u8) -> usize
     requires from_bound { from ≤ end }
     requires end_bound { end ≤ length s.now }
-    ensures place { result ≡ from + index_of newline (slice from end s.now) }
+    ensures place { result ≡ from + index_of b (slice from end s.now) }
     ensures within { result ≤ end }
 {
     let mut i = from;
     while i < end {
-        if s[i] == frame::NEWLINE {
+        if s[i] == b {
             break;
         }
         i += 1;
@@ -90,7 +90,7 @@ fn first_newline(s: &[u8], from: usize) -> usize
         }
         i += 16;
     }
-    find(s, i, len)
+    find(s, i, len, frame::NEWLINE)
 }
 
 impl Collector {
@@ -162,7 +162,7 @@ impl Collector {
             return true;
         }
         let held = self.held;
-        find(&held, 0, count) < count
+        find(&held, 0, count, frame::NEWLINE) < count
     }
 
     // A step through a lump that is no longer than it may be.

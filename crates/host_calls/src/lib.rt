@@ -10,8 +10,8 @@ ghost use Rattle.host_calls.specs.Calls.{wrote_c};
 
 // Writes an echo request to the start of out.
 pub fn write_echo(sequence: u8, text: &[u8], out: &mut [u8], size: &mut u32) -> u32
-    ensures* { λ r. ⌜ record { result = r; out = out.new; size = size.new } ≡ wrote_c size.old
-        (write_echo_def sequence text.now out.old) ⌝ }
+    ensures { record { result = result; out = out.new; size = size.new } ≡ wrote_c size.old
+        (write_echo_def sequence text.now out.old) }
 {
     let w = host::write_echo(sequence, text, out);
     records::told_c(w, size)
@@ -19,8 +19,8 @@ pub fn write_echo(sequence: u8, text: &[u8], out: &mut [u8], size: &mut u32) -> 
 
 // Writes a reset request to the start of out.
 pub fn write_reset(sequence: u8, out: &mut [u8], size: &mut u32) -> u32
-    ensures* { λ r. ⌜ record { result = r; out = out.new; size = size.new } ≡ wrote_c size.old
-        (write_reset_def sequence out.old) ⌝ }
+    ensures { record { result = result; out = out.new; size = size.new } ≡ wrote_c size.old
+        (write_reset_def sequence out.old) }
 {
     let w = host::write_reset(sequence, out);
     records::told_c(w, size)
@@ -28,8 +28,8 @@ pub fn write_reset(sequence: u8, out: &mut [u8], size: &mut u32) -> u32
 
 // Writes an erase request to the start of out.
 pub fn write_erase(sequence: u8, out: &mut [u8], size: &mut u32) -> u32
-    ensures* { λ r. ⌜ record { result = r; out = out.new; size = size.new } ≡ wrote_c size.old
-        (write_erase_def sequence out.old) ⌝ }
+    ensures { record { result = result; out = out.new; size = size.new } ≡ wrote_c size.old
+        (write_erase_def sequence out.old) }
 {
     let w = host::write_erase(sequence, out);
     records::told_c(w, size)
@@ -45,8 +45,8 @@ pub fn write_upload(
     out: &mut [u8],
     size: &mut u32,
 ) -> u32
-    ensures* { λ r. ⌜ record { result = r; out = out.new; size = size.new } ≡ wrote_c size.old
-        (write_upload_def sequence «data».now off length tag.now out.old) ⌝ }
+    ensures { record { result = result; out = out.new; size = size.new } ≡ wrote_c size.old
+        (write_upload_def sequence «data».now off length tag.now out.old) }
 {
     let w = uploads::write_upload(sequence, data, off, length, tag, out);
     records::told_c(w, size)

@@ -14,13 +14,13 @@ pub fn take_line(
     body: &mut u32,
     place: &mut u32,
 ) -> u32
-    ensures* { λ r. ⌜ record {
-      result = r;
+    ensures { record {
+      result = result;
       record_after = «record».new;
       packet = packet.new;
       body = body.new;
       place = place.new;
-    } ≡ took_line «record».old line.now packet.old body.old place.old ⌝ }
+    } ≡ took_line «record».old line.now packet.old body.old place.old }
 {
     let before = records::reader_from(record[0], record[1], record[2], record[3]);
     let taken = reader::take_line(before, line, packet);
@@ -36,13 +36,13 @@ pub fn collect(
     line: &mut [u8; frame::LONGEST],
     got: &mut [u32; 2],
 ) -> u32
-    ensures* { λ r. ⌜ record {
-      result = r;
+    ensures { record {
+      result = result;
       record_after = «record».new;
       held = held.new;
       line = line.new;
       got = got.new;
-    } ≡ collected_c «record».old held.old lump.now at line.old got.old ⌝ }
+    } ≡ collected_c «record».old held.old lump.now at line.old got.old }
 {
     let before = records::collector_from(record[0], record[1], *held);
     let step = before.collect(lump, at, line);
@@ -59,8 +59,8 @@ pub fn collect(
 
 // Writes frame number k of a body, as a line, to the start of out.
 pub fn send_frame(body: &[u8], k: usize, out: &mut [u8], sent: &mut [u32; 2]) -> u32
-    ensures* { λ r. ⌜ record { result = r; out = out.new; sent = sent.new } ≡ sent_frame body.now k out.old
-        sent.old ⌝ }
+    ensures { record { result = result; out = out.new; sent = sent.new } ≡ sent_frame body.now k out.old
+        sent.old }
 {
     match sender::send_frame(body, k, out) {
         Sent::Frame { length, count } => {

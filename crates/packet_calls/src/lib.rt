@@ -14,8 +14,8 @@ pub fn configure(
     session: &mut [u32; 4],
     tag: &mut [u8; 32],
 ) -> u32
-    ensures* { λ r. ⌜ record { result = r; session = session.new; tag = tag.new } ≡ configured_c layout.now room
-        session.old tag.old ⌝ }
+    ensures { record { result = result; session = session.new; tag = tag.new } ≡ configured_c layout.now room
+        session.old tag.old }
 {
     let regions = records::layout_from(layout);
     match session::configure(regions, room) {
@@ -40,15 +40,15 @@ pub fn handle(
     reply: &mut [u8],
     answer: &mut [u32; 2],
 ) -> u32
-    ensures* { λ r. ⌜ record {
-      result = r;
+    ensures { record {
+      result = result;
       memory = memory.new;
       session = «record».new;
       tag = tag.new;
       reply = reply.new;
       answer = answer.new;
     } ≡ handled_c layout.now memory.old «record».old tag.old
-        packet.now reply.old answer.old ⌝ }
+        packet.now reply.old answer.old }
 {
     let before = records::session_from(record[0], record[1], record[2], record[3]);
     let regions = records::layout_from(layout);
@@ -58,7 +58,7 @@ pub fn handle(
 
 // Reads a packet as a reply.
 pub fn read_reply(packet: &[u8], reply: &mut [u32; 12]) -> u32
-    ensures* { λ r. ⌜ record { result = r; reply = reply.new } ≡ read_c packet.now reply.old ⌝ }
+    ensures { record { result = result; reply = reply.new } ≡ read_c packet.now reply.old }
 {
     match replies::read_reply(packet) {
         Heard::Reply(heard) => {

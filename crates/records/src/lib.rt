@@ -191,13 +191,13 @@ pub fn layout_from(numbers: &[usize; 4]) -> Layout
 // What the reader gave, as a result: its record, the body's length and the place of bad text are stored, unless a refusal leaves them.
 pub fn told_line(taken: Taken, record: &mut [u32; 4], body: &mut u32, place: &mut u32) -> u32
     requires { SmallBy (reading.said taken.answer) taken.reader }
-    ensures* { λ r. ⌜ ((p : List ℕ) → record {
-      result = r;
+    ensures { ((p : List ℕ) → record {
+      result = result;
       record_after = «record».new;
       packet = p;
       body = body.new;
       place = place.new;
-    } ≡ took_by «record».old body.old place.old taken.reader p (reading.said taken.answer)) ⌝ }
+    } ≡ took_by «record».old body.old place.old taken.reader p (reading.said taken.answer)) }
 {
     let answer = taken.answer;
     let after = taken.reader;
@@ -232,14 +232,14 @@ pub fn told_line(taken: Taken, record: &mut [u32; 4], body: &mut u32, place: &mu
 // asked.
 pub fn told_handled(handled: Handled, record: &mut [u32; 4], answer: &mut [u32; 2]) -> u32
     requires { Held32 handled.session × HandledSmall (handling.said handled.answer) }
-    ensures* { λ r. ⌜ ((m tag b : List ℕ) → record {
-      result = r;
+    ensures { ((m tag b : List ℕ) → record {
+      result = result;
       memory = m;
       session = «record».new;
       tag = tag;
       reply = b;
       answer = answer.new;
-    } ≡ handled_by «record».old answer.old (handling.outcome handled m tag b) (handling.said handled.answer)) ⌝ }
+    } ≡ handled_by «record».old answer.old (handling.outcome handled m tag b) (handling.said handled.answer)) }
 {
     let said = handled.answer;
     match said {
@@ -262,7 +262,7 @@ pub fn told_handled(handled: Handled, record: &mut [u32; 4], answer: &mut [u32; 
 // What a writer said, as a result: the packet's length is stored.
 pub fn told_c(w: Written, size: &mut u32) -> u32
     requires { (n : ℕ) → told w ≡ packet n → n ≤ 65533 }
-    ensures* { λ r. ⌜ ((out : List ℕ) → record { result = r; out = out; size = size.new } ≡ wrote_by size.old out (told w)) ⌝ }
+    ensures { ((out : List ℕ) → record { result = result; out = out; size = size.new } ≡ wrote_by size.old out (told w)) }
 {
     match w {
         Written::Packet(n) => {

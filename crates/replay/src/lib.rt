@@ -88,7 +88,7 @@ fn replay_records(
 ) -> usize
     requires ahead { Ahead file.now place number }
     requires number_in_bounds { 4 * number ≤ length answers.old }
-    ensures* { λ r. ⌜ Ends file.now place number answers.old
+    ensures { Ends file.now place number answers.old
         (record {
           memory = memory.entry.now;
           session = session.old;
@@ -107,8 +107,8 @@ fn replay_records(
             reply = reply.new;
           };
           answers = answers.new;
-          count = r;
-        }) ⌝ }
+          count = result;
+        }) }
 {
     let mut count = 0;
     let mut at = place;
@@ -160,8 +160,8 @@ pub fn replay_file(
     answers: &mut [u32],
     count: &mut usize,
 ) -> u32
-    ensures* { λ r. ⌜ record {
-      result = r;
+    ensures { record {
+      result = result;
       bench = record {
         memory = memory.exit.now;
         session = session.new;
@@ -179,7 +179,7 @@ pub fn replay_file(
       reader = reader.old;
       packet = packet.old;
       reply = reply.old;
-    }) answers.old count.old file.now ⌝ }
+    }) answers.old count.old file.now }
 {
     let First::At { place, number } = recording::first_record(file) else {
         return refusal::number(Refusal::Unsendable);

@@ -5,80 +5,82 @@
 ghost use Rattle.std.specs.Prelude.{◌≤◌, length};
 
 use decoder::Decoded;
+use std::io;
+use std::io::Write;
 
 // Writes one CRC vector: its name and the CRC of its bytes, in hexadecimal.
-fn crc_of(name: &[u8], s: &[u8]) {
-    io::write_all(1, b"crc ");
-    io::write_all(1, name);
-    io::write_all(1, b" ");
-    io::print_hex(1, crc::continued(0, s) as u64, 4);
-    io::write_all(1, b"\n");
+fn crc_of<W: Write>(out: &mut W, name: &[u8], s: &[u8]) -> io::Result<()> {
+    let crc = crc::continued(0, s);
+    out.write_all(b"crc ")?;
+    out.write_all(name)?;
+    writeln!(out, " {crc:04x}")
 }
 
 // Writes one Base64 vector: the bytes, their text, and what the text decodes to.
-fn text_of(raw: &[u8])
+fn text_of<W: Write>(out: &mut W, raw: &[u8]) -> io::Result<()>
     requires { length raw.now ≤ 9 }
 {
     let mut text = [0u8; 12];
     let n = encoder::encode(raw, &mut text);
-    io::write_all(1, b"base64 ");
-    io::write_all(1, raw);
-    io::write_all(1, b" ");
+    out.write_all(b"base64 ")?;
+    out.write_all(raw)?;
+    out.write_all(b" ")?;
     if n <= 12 {
-        io::write_all(1, &text[..n]);
-        bytes_of(&text[..n]);
+        out.write_all(&text[..n])?;
+        bytes_of(out, &text[..n])?;
     }
-    io::write_all(1, b"\n");
+    out.write_all(b"\n")
 }
 
 // Writes what a text decodes to.
-fn bytes_of(text: &[u8])
+fn bytes_of<W: Write>(out: &mut W, text: &[u8]) -> io::Result<()>
     requires { length text.now ≤ 12 }
 {
     let mut raw = [0u8; 9];
     match decoder::decode(text, &mut raw) {
         Decoded::Bytes(n) => {
             if n <= 9 {
-                io::write_all(1, b" back ");
-                io::write_all(1, &raw[..n]);
+                out.write_all(b" back ")?;
+                out.write_all(&raw[..n])?;
             }
+            Ok(())
         }
-        Decoded::Bad => {
-            io::write_all(1, b" not well formed");
-        }
+        Decoded::Bad => out.write_all(b" not well formed"),
     }
 }
 
 // Writes a text and what it decodes to.
-fn shown(text: &[u8])
+fn shown<W: Write>(out: &mut W, text: &[u8]) -> io::Result<()>
     requires { length text.now ≤ 12 }
 {
-    io::write_all(1, b"text ");
-    io::write_all(1, text);
-    bytes_of(text);
-    io::write_all(1, b"\n");
+    out.write_all(b"text ")?;
+    out.write_all(text)?;
+    bytes_of(out, text)?;
+    out.write_all(b"\n")
 }
 
-fn main() {
-    crc_of(b"empty", b"");
-    crc_of(b"123456789", b"123456789");
-    crc_of(b"00", b"\x00");
-    crc_of(b"01", b"\x01");
-    crc_of(b"A", b"A");
-    text_of(b"");
-    text_of(b"f");
-    text_of(b"fo");
-    text_of(b"foo");
-    text_of(b"foob");
-    text_of(b"fooba");
-    text_of(b"foobar");
-    shown(b"Zh==");
-    shown(b"Zm9=");
-    shown(b"A===");
-    shown(b"====");
-    shown(b"AA==AAAA");
-    shown(b"AA=A");
-    shown(b"AAAA=");
-    shown(b"Zm9v\n");
-    shown(b"Zm-_");
+fn main(rt: HostRuntime) -> io::Result<()> {
+    let mut out = rt.stdout();
+    crc_of(&mut out, b"empty", b"")?;
+    crc_of(&mut out, b"123456789", b"123456789")?;
+    crc_of(&mut out, b"00", b"\x00")?;
+    crc_of(&mut out, b"01", b"\x01")?;
+    crc_of(&mut out, b"A", b"A")?;
+    text_of(&mut out, b"")?;
+    text_of(&mut out, b"f")?;
+    text_of(&mut out, b"fo")?;
+    text_of(&mut out, b"foo")?;
+    text_of(&mut out, b"foob")?;
+    text_of(&mut out, b"fooba")?;
+    text_of(&mut out, b"foobar")?;
+    shown(&mut out, b"Zh==")?;
+    shown(&mut out, b"Zm9=")?;
+    shown(&mut out, b"A===")?;
+    shown(&mut out, b"====")?;
+    shown(&mut out, b"AA==AAAA")?;
+    shown(&mut out, b"AA=A")?;
+    shown(&mut out, b"AAAA=")?;
+    shown(&mut out, b"Zm9v\n")?;
+    shown(&mut out, b"Zm-_")?;
+    Ok(())
 }

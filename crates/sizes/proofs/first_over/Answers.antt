@@ -15,7 +15,7 @@ overflow_add-over c = omega (arith, c.head_len-over.ensures, head_most 0 c.args.
 pub returns-then-tag_len-eq0 : goal.returns-then-tag_len-eq0
 returns-then-tag_len-eq0 c =
     let a = c.args in
-    omega (arith, c.head_len-over.ensures, head_long 0 a.size, over_untagged a.size a.tag-len c.if-tag_len-eq0.true)
+    omega (arith, c.head_len-over.ensures, head_long 0 a.size, over_untagged a.size a.tag_len c.if-tag_len-eq0.true)
 
 pub overflow_add-result : goal.overflow_add-result
 overflow_add-result c = omega (arith, c.head_len-over.ensures, head_most 0 c.args.size)
@@ -23,4 +23,4 @@ overflow_add-result c = omega (arith, c.head_len-over.ensures, head_most 0 c.arg
 pub returns : goal.returns
 returns c =
     let a = c.args in
-    omega (arith, c.head_len-over.ensures, head_long 0 a.size, over_tagged a.size a.tag-len c.if-tag_len-eq0.false)
+    omega (arith, c.head_len-over.ensures, head_long 0 a.size, over_tagged a.size a.tag_len c.if-tag_len-eq0.false)
