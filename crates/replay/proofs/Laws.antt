@@ -20,6 +20,10 @@ use Rattle.feed.specs.Feed.{Bench, Fed, feed_line_def}
 use Rattle.replay.specs.Replay.{Run, saying, fed, numbers, all_numbers, Replayed, fresh, ending, kept, replayed_by, replayed}
 use Rattle.replay.specs.Inner.{Ahead, Ends}
 
+-- the bench with these in its places
+abbrev pub bench_of : List ℕ → List ℕ → List ℕ → List ℕ → List ℕ → List ℕ → Bench
+bench_of m s tag r p b = record { memory = m; session = s; tag = tag; reader = r; packet = p; reply = b }
+
 -- one answer more, stored behind those before it
 ending_next : (k : ℕ) (answers : List ℕ) (a : Answer) (run : Run) → 4 * k + 4 ≤ length answers
     → ending (k + 1) (pasted answers (4 * k) (numbers a)) run ≡ ending k answers (saying a run)

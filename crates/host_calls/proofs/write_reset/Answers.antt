@@ -1,0 +1,24 @@
+-- `host_calls::write_reset` meets its contract: what the writer said is told, and a packet is small enough for it.
+-- Assumes nothing.
+use mathlib.Core.Path.{sym, ap, ◌∙◌}
+use Rattle.host.specs.Write.{Outcome}
+use Rattle.host_calls.specs.Calls.{wrote_c}
+use Rattle.widths.proofs.Writers.{reset_small}
+use borrow.Author.Rules.{rules}
+use Rattle.std.proofs.Common.{◌≡◌, ℕ, ◌+◌, ◌-◌, ◌*◌, ◌<◌, ◌≤◌, length, ◌/◌, ◌%◌, Bool, true, false, nat_eq, nat_lt, List, [], ◌∷◌, ◌++◌, slice_index_or, slice_set, bit_and, bit_or, Fits, w8, w32, w64, Bor, MutBor}
+use Rattle.host.specs.Write.{write_echo_def, write_reset_def, write_erase_def}
+use Rattle.uploads.specs.Upload.{write_upload_def}
+use Rattle.sequence.specs.Sequence.{next_sequence_def}
+use Rattle.sizes.specs.Size.{most_data_def}
+use Rattle.host_calls.proofs.write_reset.Goals as goal
+
+pub told_c-requires : goal.told_c-requires
+told_c-requires c = λ n e.
+    let a = c.args in
+    reset_small a.sequence a.out.now n (ap (λ (o : Outcome). o.says) (sym c.write_reset-w.ensures) ∙ e)
+
+pub returns : goal.returns
+unfolding wrote_c
+returns c =
+    let a = c.args in
+    c.told_c.ensures c.write_reset-w.new.out ∙ ap (λ (o : Outcome). wrote_c a.size.now o) c.write_reset-w.ensures

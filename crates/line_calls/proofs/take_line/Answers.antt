@@ -1,0 +1,20 @@
+-- `line_calls::take_line` meets its contract: what the reader gave is told, and fits the numbers for it.
+-- Assumes nothing.
+use mathlib.Core.Path.{sym, ◌∙◌}
+use Rattle.widths.proofs.Lines.{taken_small}
+use Rattle.line_calls.proofs.Told.{took_is}
+use borrow.Author.Rules.{rules}
+use Rattle.std.proofs.Common.{◌≡◌, ℕ, ◌+◌, ◌-◌, ◌*◌, ◌<◌, ◌≤◌, length, ◌/◌, ◌%◌, Bool, true, false, nat_eq, nat_lt, List, [], ◌∷◌, ◌++◌, slice_index_or, slice_set, bit_and, bit_or, Fits, w8, w32, w64, Bor, MutBor}
+use Rattle.line_calls.specs.Calls.{collected_c, took_line, sent_frame}
+use Rattle.line_calls.proofs.take_line.Goals as goal
+
+pub told_line-requires : goal.told_line-requires
+told_line-requires c =
+    let a = c.args in
+    taken_small a.line.now a.packet.now c.take_line-taken.result c.take_line-taken.new.p c.reader_from-before.result c.take_line-taken.ensures
+
+pub returns : goal.returns
+returns c =
+    let a = c.args in
+    c.told_line.ensures c.take_line-taken.new.p
+    ∙ sym (took_is a.«record».now a.line.now a.packet.now a.body.now a.place.now c.take_line-taken.result c.take_line-taken.new.p c.reader_from-before.result c.reader_from-before.ensures c.take_line-taken.ensures)
