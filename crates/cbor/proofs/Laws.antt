@@ -11,7 +11,6 @@ use lib.ListN.{length, get_or, take, drop, length-append}
 use lib.Seq.{get_or-append_seam, take-append_seam, drop_at}
 use borrow.Author.Tests.{le-ltb, lt-ltb, eq-eqb, ne_eqb, ltb-true, ltb-false, not-false}
 use Rattle.laws.specs.Choice.{pick}
-use Rattle.laws.specs.Bytes.{Bytes}
 use Rattle.laws.proofs.Choice.{pick_yes, pick_no, pick_case}
 use Rattle.cbor.specs.declared.Value.{Value}
 use Rattle.cbor.specs.declared.Value.TheVariants.{Unsigned, Negative, Flag, Null}

@@ -5,9 +5,6 @@ use Prim.Native.Nat.{ℕ}
 use Rattle.recording.specs.declared.First.{First}
 use Rattle.recording.specs.Recording.{begun}
 use Rattle.bench_calls.specs.Calls.{first_by_def, first_c}
-use borrow.Author.Rules.{rules}
-use Rattle.std.proofs.Common.{◌≡◌, ◌+◌, ◌-◌, ◌*◌, ◌<◌, ◌≤◌, length, ◌/◌, ◌%◌, Bool, true, false, nat_eq, nat_lt, List, [], ◌∷◌, ◌++◌, slice_index_or, slice_set, bit_and, bit_or, Fits, w8, w32, w64, Bor, MutBor}
-use Rattle.bench_calls.specs.Calls.{kind_number_def, record_c, transcript_c}
 use Rattle.bench_calls.proofs.first_numbers.Goals as goal
 
 pub returns-in-At : goal.returns-in-At

@@ -6,9 +6,6 @@ use Prim.Native.Nat.{ℕ}
 use Rattle.recording.specs.declared.Step.{Step}
 use Rattle.recording.specs.Recording.{said}
 use Rattle.bench_calls.specs.Calls.{record_by, record_c}
-use borrow.Author.Rules.{rules}
-use Rattle.std.proofs.Common.{◌≡◌, ◌+◌, ◌-◌, ◌*◌, ◌<◌, ◌≤◌, length, ◌/◌, ◌%◌, Bool, true, false, nat_eq, nat_lt, List, ◌++◌, slice_index_or, slice_set, bit_and, bit_or, Fits, w8, w32, w64, Bor, MutBor}
-use Rattle.bench_calls.specs.Calls.{kind_number_def, first_c, transcript_c}
 use Rattle.bench_calls.proofs.record_numbers.Goals as goal
 
 pub returns-in-Record : goal.returns-in-Record

@@ -6,9 +6,6 @@ use Rattle.session.specs.declared.Session.{Session}
 use Rattle.transcript.specs.declared.Text.{Text}
 use Rattle.transcript.specs.Transcript.{said, Outcome, written}
 use Rattle.bench_calls.specs.Calls.{TranscriptC, transcript_by, transcript_c}
-use borrow.Author.Rules.{rules}
-use Rattle.std.proofs.Common.{◌≡◌, ◌+◌, ◌-◌, ◌*◌, ◌<◌, ◌≤◌, length, ◌/◌, ◌%◌, Bool, true, false, nat_eq, nat_lt, List, [], ◌∷◌, ◌++◌, slice_index_or, slice_set, bit_and, bit_or, Fits, w8, w32, w64, Bor, MutBor}
-use Rattle.bench_calls.specs.Calls.{kind_number_def, first_c, record_c}
 use Rattle.bench_calls.proofs.transcript_numbers.Goals as goal
 
 -- by what the writer leaves

@@ -7,12 +7,6 @@ use lib.ListN.{get_or, take, drop}
 use Rattle.cbor.specs.declared.Head.{Head}
 use Rattle.cbor.specs.Read.{be_after}
 use Rattle.cbor.proofs.Laws.{head_past, head_there, head_small, head_none, head_cut, head_whole}
-use borrow.Author.Rules.{rules}
-use Rattle.std.proofs.Common.{◌≡◌, ◌≤◌, ◌<◌, ◌∷◌, length, ◌-◌, ◌*◌, ◌%◌, Bool, true, false, nat_eq, nat_lt, List, [], ◌++◌, slice_set, bit_and, bit_or, Fits, w8, w32, w64, Bor, MutBor}
-use Rattle.cbor.specs.Read.{width_of, head_at_def, string_from_def, value_after_def, item_at}
-use Rattle.cbor.specs.Write.{be_bytes, head_of}
-use Rattle.laws.specs.Bytes.{pasted}
-use Rattle.cbor.specs.Inner.{Put}
 use Rattle.cbor.proofs.head_at.Goals as goal
 
 pub returns-then-s-at : goal.returns-then-s-at

@@ -5,12 +5,6 @@ use native.Mathlib.Omega.{arith}
 use Rattle.cbor.specs.declared.Head.{Head}
 use Rattle.cbor.specs.Read.{value_after_def}
 use Rattle.cbor.proofs.Laws.{head_place, value_none, item_past, item_head}
-use borrow.Author.Rules.{rules}
-use Rattle.std.proofs.Common.{◌≡◌, ◌+◌, ◌≤◌, ◌<◌, ◌∷◌, length, get_or, take, drop, ℕ, ◌-◌, ◌*◌, ◌/◌, ◌%◌, Bool, true, false, nat_eq, nat_lt, List, [], ◌++◌, slice_set, bit_and, bit_or, Fits, w8, w32, w64, Bor, MutBor}
-use Rattle.cbor.specs.Read.{be_after, width_of, head_at_def, string_from_def, item_at}
-use Rattle.cbor.specs.Write.{be_bytes, head_of}
-use Rattle.laws.specs.Bytes.{pasted}
-use Rattle.cbor.specs.Inner.{Put}
 use Rattle.cbor.proofs.item_at.Goals as goal
 
 pub returns-then-s-at : goal.returns-then-s-at

@@ -1,17 +1,11 @@
 -- `cbor::number_at` meets its contract: the number so far, with the bytes that are left read after it, is the whole number.
 -- Assumes nothing.
-use mathlib.Core.Path.{◌≡◌, sym, ◌∙◌}
-use Prim.Native.Nat.{ℕ, ◌+◌, ◌-◌, ◌*◌, ◌^◌, ◌≤◌, ◌<◌}
+use mathlib.Core.Path.{sym, ◌∙◌}
+use Prim.Native.Nat.{ℕ, ◌+◌, ◌-◌, ◌*◌, ◌^◌, ◌<◌}
 use native.Mathlib.Omega.{arith}
-use lib.ListN.{get_or, take, drop}
+use lib.ListN.{get_or, drop}
 use lib.Dec.{lit<}
-use Rattle.cbor.specs.Read.{be_after}
 use Rattle.cbor.proofs.Numbers.{byte_more, eight_bytes, read_none, read_first, read_turn}
-use Rattle.std.proofs.Common.{rules, ◌∷◌, length, ◌/◌, ◌%◌, Bool, true, false, nat_eq, nat_lt, List, [], ◌++◌, slice_set, bit_and, bit_or, Fits, w8, w32, w64, Bor, MutBor}
-use Rattle.cbor.specs.Read.{width_of, head_at_def, string_from_def, value_after_def, item_at}
-use Rattle.cbor.specs.Write.{be_bytes, head_of}
-use Rattle.laws.specs.Bytes.{pasted}
-use Rattle.cbor.specs.Inner.{Put}
 use Rattle.cbor.proofs.number_at.Goals as goal
 
 pub returns-then-w-eq1 : goal.returns-then-w-eq1

@@ -1,12 +1,9 @@
 -- `cbor::number_at` meets its contract: the number so far, with the bytes that are left read after it, is the whole number.
 -- Assumes nothing.
-use mathlib.Core.Path.{◌≡◌, sym, ◌∙◌}
-use Prim.Native.Nat.{ℕ, ◌+◌, ◌-◌, ◌*◌, ◌^◌, ◌≤◌, ◌<◌}
-use native.Mathlib.Omega.{arith}
-use lib.ListN.{get_or, take, drop}
-use lib.Dec.{lit<}
+use mathlib.Core.Path.{◌≡◌}
+use Prim.Native.Nat.{◌+◌, ◌-◌, ◌^◌, ◌≤◌, ◌<◌}
+use lib.ListN.{take, drop}
 use Rattle.cbor.specs.Read.{be_after}
-use Rattle.cbor.proofs.Numbers.{byte_more, eight_bytes, read_none, read_first, read_turn}
 use Rattle.cbor.proofs.number_at.Given as goal
 
 abbrev pub invariant-loop-i : goal.invariant-loop-i

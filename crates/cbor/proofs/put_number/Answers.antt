@@ -1,17 +1,11 @@
 -- `cbor::put_number` meets its contract: the last bytes are written first, and what is left of n is n without them.
 -- Assumes nothing.
-use mathlib.Core.Path.{◌≡◌, refl, ap, ap₂, ◌∙◌}
+use mathlib.Core.Path.{refl, ap, ap₂, ◌∙◌}
 use mathlib.Core.List.{List}
-use Prim.Native.Nat.{ℕ, ◌+◌, ◌-◌, ◌/◌, ◌%◌, ◌^◌, ◌≤◌}
+use Prim.Native.Nat.{ℕ, ◌+◌, ◌-◌, ◌/◌, ◌%◌}
 use native.Mathlib.Omega.{arith}
-use lib.ListN.{length, set, length-set}
-use Rattle.laws.specs.Bytes.{pasted}
-use Rattle.cbor.specs.Write.{be_bytes}
+use lib.ListN.{set, length-set}
 use Rattle.cbor.proofs.Numbers.{write_none, left_none, write_turn, left_turn}
-use Rattle.std.proofs.Common.{rules, ◌<◌, ◌∷◌, get_or, take, drop, ◌*◌, Bool, true, false, nat_eq, nat_lt, [], ◌++◌, slice_set, bit_and, bit_or, Fits, w8, w32, w64, Bor, MutBor}
-use Rattle.cbor.specs.Read.{be_after, width_of, head_at_def, string_from_def, value_after_def, item_at}
-use Rattle.cbor.specs.Write.{head_of}
-use Rattle.cbor.specs.Inner.{Put}
 use Rattle.cbor.proofs.put_number.Goals as goal
 
 pub loop-i-init : goal.loop-i-init

@@ -1,13 +1,10 @@
 -- `cbor::put_number` meets its contract: the last bytes are written first, and what is left of n is n without them.
 -- Assumes nothing.
-use mathlib.Core.Path.{◌≡◌, refl, ap, ap₂, ◌∙◌}
-use mathlib.Core.List.{List}
-use Prim.Native.Nat.{ℕ, ◌+◌, ◌-◌, ◌/◌, ◌%◌, ◌^◌, ◌≤◌}
-use native.Mathlib.Omega.{arith}
-use lib.ListN.{length, set, length-set}
+use mathlib.Core.Path.{◌≡◌}
+use Prim.Native.Nat.{◌+◌, ◌-◌, ◌/◌, ◌^◌, ◌≤◌}
+use lib.ListN.{length}
 use Rattle.laws.specs.Bytes.{pasted}
 use Rattle.cbor.specs.Write.{be_bytes}
-use Rattle.cbor.proofs.Numbers.{write_none, left_none, write_turn, left_turn}
 use Rattle.cbor.proofs.put_number.Given as goal
 
 abbrev pub invariant-loop-i : goal.invariant-loop-i

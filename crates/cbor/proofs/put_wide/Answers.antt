@@ -4,16 +4,11 @@ use mathlib.Core.Path.{◌≡◌, ap, ◌∙◌}
 use mathlib.Core.List.{List, [], ◌∷◌}
 use Prim.Native.Nat.{ℕ, ◌+◌}
 use native.Mathlib.Omega.{arith}
-use lib.ListN.{length, set, length-set}
+use lib.ListN.{length}
 use Rattle.laws.specs.Bytes.{pasted}
-use Rattle.laws.proofs.Lists.{set_pasted, pasted_twice, pasted_length}
+use Rattle.laws.proofs.Lists.{set_pasted, pasted_twice}
 use Rattle.cbor.specs.Write.{be_bytes}
 use Rattle.cbor.proofs.Numbers.{bytes_length}
-use borrow.Author.Rules.{rules}
-use Rattle.std.proofs.Common.{◌≤◌, ◌<◌, get_or, take, drop, ◌-◌, ◌*◌, ◌/◌, ◌%◌, Bool, true, false, nat_eq, nat_lt, ◌++◌, slice_set, bit_and, bit_or, Fits, w8, w32, w64, Bor, MutBor}
-use Rattle.cbor.specs.Read.{be_after, width_of, head_at_def, string_from_def, value_after_def, item_at}
-use Rattle.cbor.specs.Write.{head_of}
-use Rattle.cbor.specs.Inner.{Put}
 use Rattle.cbor.proofs.put_wide.Goals as goal
 
 pub returns : goal.returns

@@ -5,12 +5,6 @@ use Prim.Native.Nat.{ℕ}
 use Rattle.cbor.specs.declared.Head.{Head}
 use Rattle.cbor.specs.Read.{value_after_def}
 use Rattle.cbor.proofs.Laws.{value_unsigned, value_negative, value_bytes, value_text, value_other}
-use borrow.Author.Rules.{rules}
-use Rattle.std.proofs.Common.{◌≡◌, ◌+◌, ◌≤◌, ◌<◌, ◌∷◌, length, get_or, take, drop, ◌-◌, ◌*◌, ◌/◌, ◌%◌, Bool, true, false, nat_eq, nat_lt, List, [], ◌++◌, slice_set, bit_and, bit_or, Fits, w8, w32, w64, Bor, MutBor}
-use Rattle.cbor.specs.Read.{be_after, width_of, head_at_def, string_from_def, item_at}
-use Rattle.cbor.specs.Write.{be_bytes, head_of}
-use Rattle.laws.specs.Bytes.{pasted}
-use Rattle.cbor.specs.Inner.{Put}
 use Rattle.cbor.proofs.value_after.Goals as goal
 
 pub returns-then-major-eq0 : goal.returns-then-major-eq0

@@ -4,11 +4,6 @@ use mathlib.Core.Path.{sym}
 use native.Mathlib.Omega.{arith}
 use lib.Dec.{lit≤}
 use Rattle.cbor.proofs.Laws.{width_is}
-use Rattle.std.proofs.Common.{rules, ◌≡◌, ◌+◌, ◌≤◌, ◌<◌, ◌∷◌, length, get_or, take, drop, ℕ, ◌-◌, ◌*◌, ◌/◌, ◌%◌, Bool, true, false, nat_eq, nat_lt, List, [], ◌++◌, slice_set, bit_and, bit_or, Fits, w8, w32, w64, Bor, MutBor}
-use Rattle.cbor.specs.Read.{be_after, width_of, head_at_def, string_from_def, value_after_def, item_at}
-use Rattle.cbor.specs.Write.{be_bytes, head_of}
-use Rattle.laws.specs.Bytes.{pasted}
-use Rattle.cbor.specs.Inner.{Put}
 use Rattle.cbor.proofs.width_of.Goals as goal
 
 pub returns-then-info-eq24 : goal.returns-then-info-eq24

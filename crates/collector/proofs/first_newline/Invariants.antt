@@ -1,12 +1,9 @@
 -- `collector::first_newline` meets its contract: no 0A stands between `from` and i, so that the first from i on is the first from `from` on.
 -- Assumes nothing.
-use mathlib.Core.Path.{◌≡◌, refl, sym, ◌∙◌}
+use mathlib.Core.Path.{◌≡◌}
 use Prim.Native.Nat.{◌+◌, ◌-◌, ◌≤◌}
-use native.Mathlib.Omega.{arith}
 use lib.ListN.{length, drop}
 use Rattle.collector.specs.Collector.{before}
-use Rattle.collector.proofs.Laws.{found_rest}
-use Rattle.collector.proofs.Blocks.{passed}
 use Rattle.collector.proofs.first_newline.Given as goal
 
 abbrev pub invariant-loop-i : goal.invariant-loop-i

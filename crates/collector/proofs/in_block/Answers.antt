@@ -1,17 +1,12 @@
 -- `collector::in_block` meets its contract: found says whether an 0A is among the first j bytes of the block.
 -- Assumes nothing.
-use mathlib.Core.Path.{◌≡◌, sym, ap, ◌∙◌}
-use Prim.Native.Nat.{ℕ, ◌-◌, ◌≤◌, ◌<◌}
+use mathlib.Core.Path.{sym, ◌∙◌}
+use Prim.Native.Nat.{◌<◌}
 use native.Mathlib.Numerals.{add-one}
 use native.Mathlib.Omega.{arith}
-use lib.ListN.{length, take, drop, length-drop}
+use lib.ListN.{length, drop, length-drop}
 use lib.Seq.{get_or-drop}
-use Rattle.collector.specs.Collector.{has_newline}
-use Rattle.collector.proofs.Blocks.{among_none, among_hit, among_miss}
-use Rattle.std.proofs.Common.{rules, ◌+◌, ◌*◌, ◌/◌, ◌%◌, Bool, true, false, nat_eq, nat_lt, List, [], ◌∷◌, ◌++◌, slice_index_or, slice_set, bit_and, bit_or, Fits, w8, w32, w64, Bor, MutBor}
-use Rattle.frame.specs.Line.{longest, newline}
-use Rattle.collector.specs.Search.{slice, index_of}
-use Rattle.collector.specs.Collector.{most, longest_lump, before, impossible, nothing, empty, longer, ended, said, saying, outcome, stepped, collect}
+use Rattle.collector.proofs.Blocks.{among_hit, among_miss}
 use Rattle.collector.proofs.in_block.Goals as goal
 use Rattle.collector.proofs.in_block.Goals.{then-s-i-eq-NEWLINE, else-s-i-eq-NEWLINE}
 

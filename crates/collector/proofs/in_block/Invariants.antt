@@ -1,14 +1,9 @@
 -- `collector::in_block` meets its contract: found says whether an 0A is among the first j bytes of the block.
 -- Assumes nothing.
-use mathlib.Core.Path.{◌≡◌, sym, ap, ◌∙◌}
-use mathlib.Core.Logic.{⊎_elim}
-use Prim.Native.Nat.{ℕ, ◌-◌, ◌≤◌, ◌<◌}
-use native.Mathlib.Numerals.{add-one}
-use native.Mathlib.Omega.{arith}
-use lib.ListN.{length, take, drop, length-drop}
-use lib.Seq.{get_or-drop}
+use mathlib.Core.Path.{◌≡◌}
+use Prim.Native.Nat.{◌-◌, ◌≤◌}
+use lib.ListN.{take, drop}
 use Rattle.collector.specs.Collector.{has_newline}
-use Rattle.collector.proofs.Blocks.{among_none, among_hit, among_miss}
 use Rattle.collector.proofs.in_block.Given as goal
 
 abbrev pub invariant-loop-j : goal.invariant-loop-j

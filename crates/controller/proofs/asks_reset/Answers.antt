@@ -2,16 +2,6 @@
 -- Assumes nothing.
 use mathlib.Core.Path.{sym, ap}
 use Rattle.controller.specs.Doing.{asks_reset_def}
-use borrow.Author.Rules.{rules}
-use Rattle.std.proofs.Common.{◌≡◌, true, List, ℕ, ◌+◌, ◌≤◌, ◌<◌, length, ◌-◌, ◌*◌, ◌/◌, ◌%◌, Bool, false, nat_eq, nat_lt, [], ◌∷◌, ◌++◌, slice_index_or, slice_set, bit_and, bit_or, Fits, w8, w32, w64, Bor, MutBor}
-use Rattle.laws.specs.Parts.{Within}
-use Rattle.session.specs.Session.{region_ok, layout_ok, session_ok, state_of, possible}
-use Rattle.smp.specs.Packet.{header_in_def}
-use Rattle.requests.specs.Request.{read_request_def}
-use Rattle.smp.specs.Inner.{Written}
-use Rattle.controller.specs.Doing.{reply_to_def, response_map}
-use Rattle.controller.specs.Handle.{Taking, outcome, handled, handle}
-use Rattle.controller.specs.Inner.{Carried, Answerable}
 use Rattle.controller.proofs.asks_reset.Goals as goal
 
 pub returns-in-Answer : goal.returns-in-Answer

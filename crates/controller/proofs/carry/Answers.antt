@@ -1,6 +1,6 @@
 -- `controller::carry` meets its contract, request by request.
 -- Assumes nothing.
-use mathlib.Core.Path.{sym, ap, subst, ◌∙◌}
+use mathlib.Core.Path.{sym, ap, ◌∙◌}
 use Rattle.session.specs.declared.Session.{Session}
 use Rattle.session.specs.Session.{state_of, no_tag}
 use Rattle.slot.specs.Act.{done}
@@ -8,24 +8,13 @@ use Rattle.requests.specs.declared.Request.{Request}
 use Rattle.requests.specs.declared.Reading.{Reading}
 use Rattle.requests.proofs.Sound.{upload_inside}
 use Rattle.controller.specs.Doing.{act_for, response_for}
-use Rattle.controller.specs.Inner.{Carried}
-use borrow.Author.Rules.{rules}
-use Rattle.std.proofs.Common.{◌≡◌, true, List, ℕ, ◌+◌, ◌≤◌, ◌<◌, length, ◌-◌, ◌*◌, ◌/◌, ◌%◌, Bool, false, nat_eq, nat_lt, [], ◌∷◌, ◌++◌, slice_index_or, slice_set, bit_and, bit_or, Fits, w8, w32, w64, Bor, MutBor}
-use Rattle.laws.specs.Parts.{Within}
-use Rattle.session.specs.Session.{region_ok, layout_ok, session_ok, possible}
-use Rattle.smp.specs.Packet.{header_in_def}
-use Rattle.requests.specs.Request.{read_request_def}
-use Rattle.smp.specs.Inner.{Written}
-use Rattle.controller.specs.Doing.{reply_to_def, response_map, asks_reset_def}
-use Rattle.controller.specs.Handle.{Taking, outcome, handled, handle}
-use Rattle.controller.specs.Inner.{Answerable}
 use Rattle.controller.proofs.carry.Goals as goal
 
 pub do_upload-requires-clause-size_in_bounds : goal.do_upload-requires-clause-size_in_bounds
 do_upload-requires-clause-size_in_bounds c =
     let a = c.args in
     upload_inside a.packet.now c.in-Upload.upload
-          (c.requires.packet_value ∙ ap Reading.Is c.in-Upload.is)
+    (c.requires.packet_value ∙ ap Reading.Is c.in-Upload.is)
 
 pub returns-in-Answer : goal.returns-in-Answer
 unfolding act_for response_for done

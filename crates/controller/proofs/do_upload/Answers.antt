@@ -7,16 +7,6 @@ use Rattle.rules.specs.Plan.{plan_of}
 use Rattle.slot.specs.Act.{done, act_of}
 use Rattle.controller.specs.declared.Response.{Response}
 use Rattle.controller.specs.Doing.{act_for, response_for, reply_to_def}
-use borrow.Author.Rules.{rules}
-use Rattle.std.proofs.Common.{true, List, ℕ, ◌+◌, ◌≤◌, ◌<◌, length, ◌-◌, ◌*◌, ◌/◌, ◌%◌, Bool, false, nat_eq, nat_lt, [], ◌∷◌, ◌++◌, slice_index_or, slice_set, bit_and, bit_or, Fits, w8, w32, w64, Bor, MutBor}
-use Rattle.laws.specs.Parts.{Within}
-use Rattle.session.specs.Session.{region_ok, layout_ok, session_ok, possible}
-use Rattle.smp.specs.Packet.{header_in_def}
-use Rattle.requests.specs.Request.{read_request_def}
-use Rattle.smp.specs.Inner.{Written}
-use Rattle.controller.specs.Doing.{response_map, asks_reset_def}
-use Rattle.controller.specs.Handle.{Taking, outcome, handled, handle}
-use Rattle.controller.specs.Inner.{Carried, Answerable}
 use Rattle.controller.proofs.do_upload.Goals as goal
 
 pub returns : goal.returns

@@ -2,20 +2,9 @@
 -- Assumes nothing.
 use mathlib.Core.Path.{sym, ap, ◌∙◌}
 use native.Mathlib.Omega.{arith}
-use borrow.Author.Tests.{not-true, not-false}
 use Rattle.session.specs.Session.{state_of}
 use Rattle.controller.specs.Handle.{handled}
 use Rattle.controller.proofs.Laws.{taking_impossible, taking_short, taking_other, taking_request, handle_refused}
-use borrow.Author.Rules.{rules}
-use Rattle.std.proofs.Common.{◌≡◌, true, List, ℕ, ◌+◌, ◌≤◌, ◌<◌, length, ◌-◌, ◌*◌, ◌/◌, ◌%◌, Bool, false, nat_eq, nat_lt, [], ◌∷◌, ◌++◌, slice_index_or, slice_set, bit_and, bit_or, Fits, w8, w32, w64, Bor, MutBor}
-use Rattle.laws.specs.Parts.{Within}
-use Rattle.session.specs.Session.{region_ok, layout_ok, session_ok, possible}
-use Rattle.smp.specs.Packet.{header_in_def}
-use Rattle.requests.specs.Request.{read_request_def}
-use Rattle.smp.specs.Inner.{Written}
-use Rattle.controller.specs.Doing.{reply_to_def, response_map, asks_reset_def}
-use Rattle.controller.specs.Handle.{Taking, outcome, handle}
-use Rattle.controller.specs.Inner.{Carried, Answerable}
 use Rattle.controller.proofs.handle_packet.Goals as goal
 
 pub returns-then-not-possible : goal.returns-then-not-possible

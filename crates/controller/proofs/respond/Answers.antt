@@ -13,16 +13,6 @@ use Rattle.requests.proofs.Sound.{request_sized}
 use Rattle.controller.specs.Doing.{act_for, response_for}
 use Rattle.controller.specs.Inner.{Answerable}
 use Rattle.controller.proofs.Laws.{carried_reset, carried_plain, response_answerable}
-use borrow.Author.Rules.{rules}
-use Rattle.std.proofs.Common.{List, ◌+◌, ◌≤◌, ◌<◌, ◌-◌, ◌*◌, ◌/◌, ◌%◌, Bool, false, nat_eq, nat_lt, [], ◌∷◌, ◌++◌, slice_index_or, slice_set, bit_and, bit_or, Fits, w8, w32, w64, Bor, MutBor}
-use Rattle.laws.specs.Parts.{Within}
-use Rattle.session.specs.Session.{region_ok, possible}
-use Rattle.smp.specs.Packet.{header_in_def}
-use Rattle.requests.specs.Request.{read_request_def}
-use Rattle.smp.specs.Inner.{Written}
-use Rattle.controller.specs.Doing.{reply_to_def, response_map, asks_reset_def}
-use Rattle.controller.specs.Handle.{Taking, outcome, handled, handle}
-use Rattle.controller.specs.Inner.{Carried}
 use Rattle.controller.proofs.respond.Goals as goal
 
 pub carry-done-requires-clause-memory_value : goal.carry-done-requires-clause-memory_value
@@ -60,7 +50,7 @@ write_response-n-requires-clause-answerable c =
     let oks = both_true (layout_ok a.layout (length a.memory.now)) (session_ok slot a.session) c.requires.session_value in
     let meant : c.carry-done.result.response ≡ response_for slot st (done slot (act_for slot st p a.request) st) p a.request =
     c.carry-done.ensures.response ∙ ap (λ (x : State). response_for slot st x p a.request) c.carry-done.ensures.state in subst (Answerable p) (sym meant)
-              (response_answerable slot st p a.request (layout_bounds a.layout (length a.memory.now) oks.0).upload oks.1 c.requires.packet_value)
+    (response_answerable slot st p a.request (layout_bounds a.layout (length a.memory.now) oks.0).upload oks.1 c.requires.packet_value)
 
 pub returns-then-asks_reset : goal.returns-then-asks_reset
 returns-then-asks_reset c =

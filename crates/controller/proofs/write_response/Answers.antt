@@ -1,22 +1,12 @@
 -- `controller::write_response` meets its contract: each response has its own writer.
 -- Assumes nothing.
 use mathlib.Core.Path.{◌≡◌, sym, subst}
-use Prim.Native.Nat.{ℕ, ◌<◌}
+use Prim.Native.Nat.{ℕ}
 use mathlib.Core.List.{List}
 use Rattle.smp.specs.declared.Header.{Header}
 use Rattle.smp.specs.Inner.{Written}
 use Rattle.controller.specs.declared.Response.{Response}
 use Rattle.controller.specs.Doing.{response_map}
-use Rattle.controller.specs.Inner.{Answerable}
-use borrow.Author.Rules.{rules}
-use Rattle.std.proofs.Common.{true, ◌+◌, ◌≤◌, length, ◌-◌, ◌*◌, ◌/◌, ◌%◌, Bool, false, nat_eq, nat_lt, [], ◌∷◌, ◌++◌, slice_index_or, slice_set, bit_and, bit_or, Fits, w8, w32, w64, Bor, MutBor}
-use Rattle.laws.specs.Parts.{Within}
-use Rattle.session.specs.Session.{region_ok, layout_ok, session_ok, state_of, possible}
-use Rattle.smp.specs.Packet.{header_in_def}
-use Rattle.requests.specs.Request.{read_request_def}
-use Rattle.controller.specs.Doing.{reply_to_def, asks_reset_def}
-use Rattle.controller.specs.Handle.{Taking, outcome, handled, handle}
-use Rattle.controller.specs.Inner.{Carried}
 use Rattle.controller.proofs.write_response.Goals as goal
 
 -- what was written with a header and a response's map, for the packet's own header and the response itself

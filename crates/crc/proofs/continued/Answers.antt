@@ -1,16 +1,12 @@
 -- `crc::continued` meets its contract: the register continued over what is left of `s` is the register continued over all of it.
 -- Assumes nothing.
-use mathlib.Core.Path.{◌≡◌, refl, sym, ap, ◌∙◌}
+use mathlib.Core.Path.{sym, ap, ◌∙◌}
 use mathlib.Core.List.{List}
-use Prim.Native.Nat.{ℕ, ◌+◌, ◌-◌, ◌≤◌}
+use Prim.Native.Nat.{ℕ, ◌+◌}
 use native.Mathlib.Omega.{arith}
-use lib.ListN.{length, drop, drop_of_length-le}
-use borrow.Author.Rules.{rules}
+use lib.ListN.{drop, drop_of_length-le}
 use Rattle.crc.specs.Crc.{onward}
 use Rattle.crc.proofs.Laws.{onward_none, onward_turn}
-use Rattle.std.proofs.Common.{◌*◌, ◌<◌, ◌/◌, ◌%◌, Bool, true, false, nat_eq, nat_lt, [], ◌∷◌, ◌++◌, slice_index_or, slice_set, bit_and, bit_or, Fits, w8, w32, w64, Bor, MutBor}
-use Rattle.crc.specs.Crc.{byte}
-use Rattle.crc.specs.Inner.{Entries}
 use Rattle.crc.proofs.continued.Goals as goal
 
 pub loop-i-preserved : goal.loop-i-preserved

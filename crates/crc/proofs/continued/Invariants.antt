@@ -1,13 +1,9 @@
 -- `crc::continued` meets its contract: the register continued over what is left of `s` is the register continued over all of it.
 -- Assumes nothing.
-use mathlib.Core.Path.{◌≡◌, refl, sym, ap, ◌∙◌}
-use mathlib.Core.List.{List}
-use Prim.Native.Nat.{ℕ, ◌+◌, ◌-◌, ◌≤◌}
-use native.Mathlib.Omega.{arith}
-use lib.ListN.{length, drop, drop_of_length-le}
-use borrow.Author.Rules.{rules}
+use mathlib.Core.Path.{◌≡◌}
+use Prim.Native.Nat.{◌-◌, ◌≤◌}
+use lib.ListN.{length, drop}
 use Rattle.crc.specs.Crc.{onward}
-use Rattle.crc.proofs.Laws.{onward_none, onward_turn}
 use Rattle.crc.proofs.continued.Given as goal
 
 abbrev pub invariant-loop-i : goal.invariant-loop-i

@@ -3,9 +3,6 @@
 use borrow.Author.Rules.{rules}
 use Rattle.laws.proofs.Table.{tab_entry}
 use Rattle.crc.specs.Crc.{byte}
-use Rattle.std.proofs.Common.{◌≡◌, ℕ, ◌+◌, ◌-◌, ◌*◌, ◌<◌, ◌≤◌, length, ◌/◌, ◌%◌, Bool, true, false, nat_eq, nat_lt, List, [], ◌∷◌, ◌++◌, slice_index_or, slice_set, bit_and, bit_or, Fits, w8, w32, w64, Bor, MutBor}
-use Rattle.crc.specs.Crc.{onward}
-use Rattle.crc.specs.Inner.{Entries}
 use Rattle.crc.proofs.look.Goals as goal
 
 pub returns : goal.returns

@@ -6,10 +6,6 @@ use native.Mathlib.Omega.{arith}
 use Rattle.laws.specs.Bytes.{pasted}
 use Rattle.decimal.specs.Decimal.{digits, digit_count_def}
 use Rattle.decimal.proofs.Laws.{digits_length}
-use borrow.Author.Rules.{rules}
-use Rattle.std.proofs.Common.{◌≡◌, [], ◌∷◌, ◌++◌, ◌+◌, ◌≤◌, length, ◌-◌, ◌*◌, ◌<◌, ◌/◌, ◌%◌, Bool, true, false, nat_eq, nat_lt, List, slice_index_or, slice_set, bit_and, bit_or, Fits, w8, w32, w64, Bor, MutBor}
-use Rattle.cbor.specs.Inner.{Put}
-use Rattle.decimal.specs.Decimal.{decimal}
 use Rattle.decimal.proofs.put_decimal.Goals as goal
 
 pub put_digits-requires : goal.put_digits-requires

@@ -1,16 +1,11 @@
 -- `decimal::put_digits` meets its contract: the last digits are written first, and what is left of n is n without them.
 -- Assumes nothing.
-use mathlib.Core.Path.{◌≡◌, refl, ap, ap₂, ◌∙◌}
+use mathlib.Core.Path.{refl, ap, ap₂, ◌∙◌}
 use mathlib.Core.List.{List}
-use Prim.Native.Nat.{ℕ, ◌+◌, ◌-◌, ◌/◌, ◌%◌, ◌^◌, ◌≤◌}
+use Prim.Native.Nat.{ℕ, ◌+◌, ◌-◌, ◌/◌, ◌%◌}
 use native.Mathlib.Omega.{arith}
-use lib.ListN.{length, set, length-set}
-use Rattle.laws.specs.Bytes.{pasted}
-use Rattle.decimal.specs.Decimal.{digits}
+use lib.ListN.{set, length-set}
 use Rattle.decimal.proofs.Laws.{digits_none, tens_none, digits_turn, tens_turn}
-use Rattle.std.proofs.Common.{rules, [], ◌∷◌, ◌++◌, ◌*◌, ◌<◌, Bool, true, false, nat_eq, nat_lt, slice_index_or, slice_set, bit_and, bit_or, Fits, w8, w32, w64, Bor, MutBor}
-use Rattle.cbor.specs.Inner.{Put}
-use Rattle.decimal.specs.Decimal.{digit_count_def, decimal}
 use Rattle.decimal.proofs.put_digits.Goals as goal
 
 pub loop-i-init : goal.loop-i-init

@@ -4,10 +4,6 @@ use Prim.Native.Nat.{◌/◌, ◌-◌}
 use native.Mathlib.Omega.{arith}
 use lib.ListN.{length}
 use Rattle.decoder.proofs.Runs.{decodes_uneven, decodes_empty, decodes_broken, decodes_bad, decodes_good, last_most}
-use borrow.Author.Rules.{rules}
-use Rattle.std.proofs.Common.{◌≡◌, ◌+◌, ◌*◌, ◌≤◌, get_or, ℕ, ◌<◌, ◌%◌, Bool, true, false, nat_eq, nat_lt, List, [], ◌∷◌, ◌++◌, slice_set, bit_and, bit_or, Fits, w8, w32, w64, Bor, MutBor}
-use Rattle.strict_base64.specs.Base64.{value, pad}
-use Rattle.decoder.specs.Inner.{Decodes, Values, Group, Groups, Last, final_at}
 use Rattle.decoder.proofs.decode.Goals as goal
 
 pub returns-then-n-ne0 : goal.returns-then-n-ne0

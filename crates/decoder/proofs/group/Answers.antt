@@ -2,12 +2,7 @@
 -- Assumes nothing.
 use Prim.Native.Nat.{◌<◌}
 use native.Mathlib.Omega.{arith}
-use lib.ListN.{length-set}
 use Rattle.decoder.proofs.Steps.{or_all, group_good, group_bad}
-use borrow.Author.Rules.{rules}
-use Rattle.std.proofs.Common.{◌≡◌, ◌+◌, ◌*◌, ◌/◌, ◌≤◌, length, get_or, ℕ, ◌-◌, ◌%◌, Bool, true, false, nat_eq, nat_lt, List, [], ◌∷◌, ◌++◌, slice_set, bit_and, bit_or, Fits, w8, w32, w64, Bor, MutBor}
-use Rattle.strict_base64.specs.Base64.{value, pad}
-use Rattle.decoder.specs.Inner.{Decodes, Values, Group, Groups, Last, final_at}
 use Rattle.decoder.proofs.group.Goals as goal
 
 -- the four numbers are below 64 where their bitwise or is

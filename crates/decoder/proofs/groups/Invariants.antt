@@ -1,15 +1,11 @@
 -- `decoder::groups` meets its contract. The loop's invariant: the first g groups are full, and their bytes stand at the start of out.
 -- The measure is how many groups are left. Assumes nothing.
-use mathlib.Core.Path.{◌≡◌, refl, sym, ◌∙◌}
-use mathlib.Core.List.{List, []}
+use mathlib.Core.Path.{◌≡◌}
+use mathlib.Core.List.{List}
 use Prim.Native.Nat.{ℕ, ◌≤◌, ◌-◌}
-use native.Mathlib.Omega.{arith}
-use borrow.Author.Tests.{not-true, not-false}
 use lib.ListN.{length}
 use Rattle.laws.specs.Bytes.{pasted}
-use Rattle.laws.proofs.Lists.{pasted_none}
 use Rattle.decoder.specs.Inner.{Passed}
-use Rattle.decoder.proofs.Runs.{passed_none, groups_next, groups_stop}
 use Rattle.decoder.proofs.groups.Given as goal
 
 abbrev pub invariant-loop-g : goal.invariant-loop-g

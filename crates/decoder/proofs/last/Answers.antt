@@ -1,10 +1,6 @@
 -- `decoder::last` meets its contract: the filling characters say which of the three kinds of last group it is.
 -- Assumes nothing.
 use Rattle.decoder.proofs.Steps.{all_good, all_bad}
-use borrow.Author.Rules.{rules}
-use Rattle.std.proofs.Common.{◌≡◌, ◌+◌, ◌*◌, ◌/◌, ◌≤◌, length, get_or, ℕ, ◌-◌, ◌<◌, ◌%◌, Bool, true, false, nat_eq, nat_lt, List, [], ◌∷◌, ◌++◌, slice_set, bit_and, bit_or, Fits, w8, w32, w64, Bor, MutBor}
-use Rattle.strict_base64.specs.Base64.{value, pad}
-use Rattle.decoder.specs.Inner.{Decodes, Values, Group, Groups, Last, final_at}
 use Rattle.decoder.proofs.last.Goals as goal
 
 pub returns-then-group : goal.returns-then-group

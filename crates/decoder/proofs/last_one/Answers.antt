@@ -6,10 +6,6 @@ use Prim.Native.Nat.{◌+◌, ◌*◌, ◌/◌}
 use native.Mathlib.Omega.{arith}
 use Rattle.laws.proofs.Lists.{set_pasted}
 use Rattle.decoder.proofs.Steps.{last_bad, last_good, one_bad_first, one_bad_second, one_bad_bits, one_good}
-use borrow.Author.Rules.{rules}
-use Rattle.std.proofs.Common.{◌≡◌, ◌≤◌, length, get_or, ℕ, ◌-◌, ◌<◌, ◌%◌, Bool, true, false, nat_eq, nat_lt, List, ◌++◌, slice_set, bit_and, bit_or, Fits, w8, w32, w64, Bor, MutBor}
-use Rattle.strict_base64.specs.Base64.{value, pad}
-use Rattle.decoder.specs.Inner.{Decodes, Values, Group, Groups, Last, final_at}
 use Rattle.decoder.proofs.last_one.Goals as goal
 
 pub returns-then-a-ge64 : goal.returns-then-a-ge64

@@ -4,13 +4,8 @@ use mathlib.Core.Path.{refl}
 use mathlib.Core.List.{[], ◌∷◌}
 use Prim.Native.Nat.{◌+◌, ◌*◌, ◌/◌, ◌%◌}
 use native.Mathlib.Omega.{arith}
-use lib.ListN.{length-set}
 use Rattle.laws.proofs.Lists.{set_twice_pasted}
 use Rattle.decoder.proofs.Steps.{last_bad, last_good, two_bad_first, two_bad_second, two_bad_third, two_bad_bits, two_good}
-use borrow.Author.Rules.{rules}
-use Rattle.std.proofs.Common.{◌≡◌, ◌≤◌, length, get_or, ℕ, ◌-◌, ◌<◌, Bool, true, false, nat_eq, nat_lt, List, ◌++◌, slice_set, bit_and, bit_or, Fits, w8, w32, w64, Bor, MutBor}
-use Rattle.strict_base64.specs.Base64.{value, pad}
-use Rattle.decoder.specs.Inner.{Decodes, Values, Group, Groups, Last, final_at}
 use Rattle.decoder.proofs.last_two.Goals as goal
 
 pub returns-then-a-ge64 : goal.returns-then-a-ge64

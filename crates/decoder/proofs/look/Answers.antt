@@ -3,9 +3,6 @@
 use borrow.Author.Rules.{rules}
 use Rattle.strict_base64.specs.Base64.{value}
 use Rattle.laws.proofs.Table.{tab_entry}
-use Rattle.std.proofs.Common.{◌≡◌, ◌+◌, ◌*◌, ◌/◌, ◌≤◌, length, get_or, ℕ, ◌-◌, ◌<◌, ◌%◌, Bool, true, false, nat_eq, nat_lt, List, [], ◌∷◌, ◌++◌, slice_set, bit_and, bit_or, Fits, w8, w32, w64, Bor, MutBor}
-use Rattle.strict_base64.specs.Base64.{pad}
-use Rattle.decoder.specs.Inner.{Decodes, Values, Group, Groups, Last, final_at}
 use Rattle.decoder.proofs.look.Goals as goal
 
 pub returns : goal.returns

@@ -4,11 +4,6 @@ use Prim.Native.Nat.{◌/◌}
 use native.Mathlib.Omega.{arith}
 use lib.ListN.{length}
 use Rattle.encoder.proofs.Texts.{encodes_whole, encodes_one, encodes_two}
-use borrow.Author.Rules.{rules}
-use Rattle.std.proofs.Common.{◌≡◌, ◌+◌, ◌*◌, ◌<◌, ◌≤◌, ℕ, ◌-◌, ◌%◌, Bool, true, false, nat_eq, nat_lt, List, [], ◌∷◌, ◌++◌, slice_index_or, slice_set, bit_and, bit_or, Fits, w8, w32, w64, Bor, MutBor}
-use Rattle.laws.specs.Bytes.{pasted}
-use Rattle.strict_base64.specs.Base64.{char}
-use Rattle.encoder.specs.Inner.{Encodes, Chars, head_text, text_of_three, text_of_one, text_of_two}
 use Rattle.encoder.proofs.encode.Goals as goal
 
 pub returns-then-left-eq0 : goal.returns-then-left-eq0

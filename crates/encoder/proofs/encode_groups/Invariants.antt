@@ -1,14 +1,10 @@
 -- `encoder::encode_groups` meets its contract. The loop's invariant: the text of the first g groups stands at the start of out.
 -- The measure is how many groups are left. Assumes nothing.
-use mathlib.Core.Path.{◌≡◌, refl, sym, ◌∙◌}
+use mathlib.Core.Path.{◌≡◌}
 use Prim.Native.Nat.{◌≤◌, ◌-◌}
-use native.Mathlib.Omega.{arith}
 use lib.ListN.{length}
 use Rattle.laws.specs.Bytes.{pasted}
-use Rattle.laws.proofs.Lists.{pasted_none}
-use Rattle.strict_base64.specs.Base64.{encode}
 use Rattle.encoder.specs.Inner.{head_text}
-use Rattle.encoder.proofs.Texts.{encode_next}
 use Rattle.encoder.proofs.encode_groups.Given as goal
 
 abbrev pub invariant-loop-g : goal.invariant-loop-g

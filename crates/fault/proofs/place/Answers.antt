@@ -1,15 +1,7 @@
 -- `fault::place` meets its contract. The loop's invariant: the place is i further than that of the text from i on. The measure is how much text is left.
 -- Assumes nothing.
-use mathlib.Core.Path.{◌≡◌, refl}
-use Prim.Native.Nat.{◌+◌, ◌-◌, ◌≤◌}
-use native.Mathlib.Omega.{arith}
-use lib.ListN.{length, drop}
-use Rattle.fault.specs.Fault.{place_of_def}
+use mathlib.Core.Path.{refl}
 use Rattle.fault.proofs.Places.{turn_in, turn_behind, turn_on, turned}
-use borrow.Author.Rules.{rules}
-use Rattle.std.proofs.Common.{ℕ, ◌*◌, ◌<◌, ◌/◌, ◌%◌, Bool, true, false, nat_eq, nat_lt, List, [], ◌∷◌, ◌++◌, slice_index_or, slice_set, bit_and, bit_or, Fits, w8, w32, w64, Bor, MutBor}
-use Rattle.decoder.specs.Inner.{Values}
-use Rattle.fault.specs.Fault.{Place, standing}
 use Rattle.fault.proofs.place.Goals as goal
 
 pub returns-then-k-lt4 : goal.returns-then-k-lt4

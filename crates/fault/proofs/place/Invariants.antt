@@ -1,12 +1,9 @@
 -- `fault::place` meets its contract. The loop's invariant: the place is i further than that of the text from i on. The measure is how much text is left.
 -- Assumes nothing.
-use mathlib.Core.Path.{◌≡◌, refl}
+use mathlib.Core.Path.{◌≡◌}
 use Prim.Native.Nat.{◌+◌, ◌-◌, ◌≤◌}
-use native.Mathlib.Omega.{arith}
 use lib.ListN.{length, drop}
 use Rattle.fault.specs.Fault.{place_of_def}
-use Rattle.fault.proofs.Places.{turn_in, turn_behind, turn_on, turned}
-use borrow.Author.Rules.{rules}
 use Rattle.fault.proofs.place.Given as goal
 
 abbrev pub invariant-loop-i : goal.invariant-loop-i

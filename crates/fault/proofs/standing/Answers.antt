@@ -3,10 +3,6 @@
 use borrow.Author.Tests.{eq-eqb, ne_eqb, lt-ltb, le-ltb}
 use Rattle.laws.proofs.Choice.{pick_yes, pick_no}
 use Rattle.fault.specs.Fault.{third_stands, fourth_stands, standing}
-use borrow.Author.Rules.{rules}
-use Rattle.std.proofs.Common.{◌≡◌, ℕ, ◌+◌, ◌-◌, ◌*◌, ◌<◌, ◌≤◌, length, ◌/◌, ◌%◌, Bool, true, false, nat_eq, nat_lt, List, [], ◌∷◌, ◌++◌, slice_index_or, slice_set, bit_and, bit_or, Fits, w8, w32, w64, Bor, MutBor}
-use Rattle.decoder.specs.Inner.{Values}
-use Rattle.fault.specs.Fault.{Place}
 use Rattle.fault.proofs.standing.Goals as goal
 
 pub returns-then-look-ge64 : goal.returns-then-look-ge64

@@ -4,9 +4,6 @@ use mathlib.Core.Path.{◌∙◌}
 use Rattle.records.specs.Results.{TookLine}
 use Rattle.feed.specs.Feed.{Bench}
 use Rattle.feed.proofs.Laws.{fed_refusal, fed_more, fed_packet}
-use borrow.Author.Rules.{rules}
-use Rattle.std.proofs.Common.{◌≡◌, List, ℕ, ◌≤◌, length, take, ◌+◌, ◌-◌, ◌*◌, ◌<◌, ◌/◌, ◌%◌, Bool, true, false, nat_eq, nat_lt, [], ◌∷◌, ◌++◌, slice_index_or, slice_set, bit_and, bit_or, Fits, w8, w32, w64, Bor, MutBor}
-use Rattle.feed.specs.Feed.{rc_in, hand_over_def, feed_line_def}
 use Rattle.feed.proofs.feed_line.Goals as goal
 
 pub returns-then-refusal-ne0 : goal.returns-then-refusal-ne0

@@ -3,15 +3,11 @@
 use mathlib.Core.Path.{◌≡◌, ap, ◌∙◌}
 use mathlib.Core.List.{List, [], ◌∷◌}
 use Prim.Native.Nat.{ℕ}
-use native.Mathlib.Omega.{arith}
-use lib.ListN.{take, length-take}
+use lib.ListN.{take}
 use Rattle.records.specs.Results.{HandledC}
 use Rattle.packet_calls.specs.Calls.{handled_c}
 use Rattle.feed.specs.Feed.{halves, replying, refusing}
 use Rattle.feed.proofs.Laws.{hand_over_lem, answered_reply, answered_refusal}
-use borrow.Author.Rules.{rules}
-use Rattle.std.proofs.Common.{◌≤◌, length, ◌+◌, ◌-◌, ◌*◌, ◌<◌, ◌/◌, ◌%◌, Bool, true, false, nat_eq, nat_lt, ◌++◌, slice_index_or, slice_set, bit_and, bit_or, Fits, w8, w32, w64, Bor, MutBor}
-use Rattle.feed.specs.Feed.{rc_in, hand_over_def, feed_line_def}
 use Rattle.feed.proofs.hand_over.Goals as goal
 
 pub returns-then-refusal-ne0 : goal.returns-then-refusal-ne0

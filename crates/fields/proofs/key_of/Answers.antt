@@ -11,11 +11,6 @@ use Rattle.fields.specs.declared.Key.{Key}
 use Rattle.fields.specs.declared.Kind.TheVariants.{Echo, Bare, Erase}
 use Rattle.laws.specs.Bytes.{same}
 use Rattle.fields.specs.Keys.{name_d, name_slot, key_of}
-use borrow.Author.Rules.{rules}
-use Rattle.std.proofs.Common.{◌+◌, ◌≤◌, length, ◌-◌, ◌*◌, ◌<◌, ◌/◌, ◌%◌, Bool, nat_eq, nat_lt, [], ◌∷◌, ◌++◌, slice_index_or, slice_set, bit_and, bit_or, Fits, w8, w32, w64, Bor, MutBor}
-use Rattle.fields.specs.Keys.{type_of, type_for_def}
-use Rattle.fields.specs.Fields.{place_of_def, flag_number_def, first_of, second_of, stored, number_in_def, run_in_def, flag_in_def}
-use Rattle.fields.specs.Inner.{later_name}
 use Rattle.fields.proofs.key_of.Goals as goal
 
 pub returns-then-name_is : goal.returns-then-name_is

@@ -3,11 +3,6 @@
 use mathlib.Core.Path.{sym, ap}
 use Rattle.fields.specs.Fields.{index_of, place_of_def}
 use borrow.Author.Rules.{rules}
-use Rattle.std.proofs.Common.{◌≡◌, ◌+◌, ◌≤◌, length, take, drop, ℕ, ◌-◌, ◌*◌, ◌<◌, ◌/◌, ◌%◌, Bool, true, false, nat_eq, nat_lt, List, [], ◌∷◌, ◌++◌, slice_index_or, slice_set, bit_and, bit_or, Fits, w8, w32, w64, Bor, MutBor}
-use Rattle.laws.specs.Bytes.{same}
-use Rattle.fields.specs.Keys.{key_of, type_of, type_for_def}
-use Rattle.fields.specs.Fields.{flag_number_def, first_of, second_of, stored, number_in_def, run_in_def, flag_in_def}
-use Rattle.fields.specs.Inner.{later_name}
 use Rattle.fields.proofs.place_of.Goals as goal
 
 pub returns-in-Text : goal.returns-in-Text

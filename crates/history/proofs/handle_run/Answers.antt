@@ -10,10 +10,6 @@ use Rattle.session.specs.Session.{state_of, no_tag, closed_in}
 use Rattle.controller.specs.Handle.{handle}
 use Rattle.history.specs.Calls.{size_at}
 use Rattle.history.proofs.Calls.{Come, come_none, come_more, come_end, run_cut, run_end}
-use borrow.Author.Rules.{rules}
-use Rattle.std.proofs.Common.{◌<◌, ◌/◌, ◌%◌, Bool, true, false, nat_eq, nat_lt, [], ◌∷◌, ◌++◌, slice_index_or, slice_set, bit_and, bit_or, Fits, w8, w32, w64, Bor, MutBor}
-use Rattle.laws.specs.Parts.{part_of}
-use Rattle.history.specs.Calls.{Ran}
 use Rattle.history.proofs.handle_run.Goals as goal
 
 pub loop-at-init : goal.loop-at-init

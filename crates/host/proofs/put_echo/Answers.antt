@@ -9,13 +9,6 @@ use Rattle.cbor.specs.Write.{text_of, map_of}
 use Rattle.fields.specs.Keys.{name_d}
 use Rattle.host.proofs.Writing.{echo_parts}
 use Rattle.smp.proofs.Writing.{put_then, room_first, room_rest}
-use borrow.Author.Rules.{rules}
-use Rattle.std.proofs.Common.{◌≡◌, ◌-◌, ◌*◌, ◌<◌, ◌/◌, ◌%◌, Bool, true, false, nat_eq, nat_lt, [], ◌∷◌, slice_index_or, slice_set, bit_and, bit_or, Fits, w8, w32, w64, Bor, MutBor}
-use Rattle.laws.specs.Bytes.{pasted}
-use Rattle.cbor.specs.Inner.{Put}
-use Rattle.smp.specs.Packet.{header_bytes}
-use Rattle.host.specs.Write.{request_header, echo_map, outcome, sendable, write_echo_def, write_reset_def, write_erase_def}
-use Rattle.host.specs.Inner.{empty_request}
 use Rattle.host.proofs.put_echo.Goals as goal
 
 pub put_head-first-requires : goal.put_head-first-requires

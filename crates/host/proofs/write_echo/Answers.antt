@@ -3,16 +3,8 @@
 use mathlib.Core.Path.{sym, ◌∙◌}
 use native.Mathlib.Omega.{arith}
 use lib.ListN.{length}
-use borrow.Author.Tests.{not-true, not-false}
 use Rattle.host.specs.Write.{echo_map, write_echo_def}
 use Rattle.host.proofs.Writing.{sendable_fits, request_sent, request_refused, head_most, echo_length}
-use borrow.Author.Rules.{rules}
-use Rattle.std.proofs.Common.{◌≡◌, ◌+◌, ◌-◌, ◌≤◌, ℕ, ◌*◌, ◌<◌, ◌/◌, ◌%◌, Bool, true, false, nat_eq, nat_lt, List, [], ◌∷◌, ◌++◌, slice_index_or, slice_set, bit_and, bit_or, Fits, w8, w32, w64, Bor, MutBor}
-use Rattle.laws.specs.Bytes.{pasted}
-use Rattle.cbor.specs.Inner.{Put}
-use Rattle.smp.specs.Packet.{header_bytes}
-use Rattle.host.specs.Write.{request_header, outcome, sendable, write_reset_def, write_erase_def}
-use Rattle.host.specs.Inner.{empty_request}
 use Rattle.host.proofs.write_echo.Goals as goal
 
 pub overflow_add-total : goal.overflow_add-total

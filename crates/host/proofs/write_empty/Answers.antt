@@ -3,17 +3,9 @@
 use mathlib.Core.Path.{sym, ◌∙◌}
 use native.Mathlib.Omega.{arith}
 use lib.Dec.{lit<}
-use borrow.Author.Tests.{not-true, not-false}
 use Rattle.cbor.specs.Write.{map_of}
 use Rattle.smp.proofs.Writing.{head_tiny}
 use Rattle.host.proofs.Writing.{sendable_fits, request_sent, request_refused}
-use borrow.Author.Rules.{rules}
-use Rattle.std.proofs.Common.{◌≡◌, ◌+◌, ◌-◌, ◌≤◌, length, ℕ, ◌*◌, ◌<◌, ◌/◌, ◌%◌, Bool, true, false, nat_eq, nat_lt, List, [], ◌∷◌, ◌++◌, slice_index_or, slice_set, bit_and, bit_or, Fits, w8, w32, w64, Bor, MutBor}
-use Rattle.laws.specs.Bytes.{pasted}
-use Rattle.cbor.specs.Inner.{Put}
-use Rattle.smp.specs.Packet.{header_bytes}
-use Rattle.host.specs.Write.{request_header, echo_map, outcome, sendable, write_echo_def, write_reset_def, write_erase_def}
-use Rattle.host.specs.Inner.{empty_request}
 use Rattle.host.proofs.write_empty.Goals as goal
 
 pub returns-then-not-is_sendable : goal.returns-then-not-is_sendable

@@ -4,12 +4,6 @@ use mathlib.Core.Path.{sym, ap, ◌∙◌}
 use Rattle.host.specs.Write.{Outcome}
 use Rattle.host_calls.specs.Calls.{wrote_c}
 use Rattle.widths.proofs.Writers.{echo_small}
-use borrow.Author.Rules.{rules}
-use Rattle.std.proofs.Common.{◌≡◌, ℕ, ◌+◌, ◌-◌, ◌*◌, ◌<◌, ◌≤◌, length, ◌/◌, ◌%◌, Bool, true, false, nat_eq, nat_lt, List, [], ◌∷◌, ◌++◌, slice_index_or, slice_set, bit_and, bit_or, Fits, w8, w32, w64, Bor, MutBor}
-use Rattle.host.specs.Write.{write_echo_def, write_reset_def, write_erase_def}
-use Rattle.uploads.specs.Upload.{write_upload_def}
-use Rattle.sequence.specs.Sequence.{next_sequence_def}
-use Rattle.sizes.specs.Size.{most_data_def}
 use Rattle.host_calls.proofs.write_echo.Goals as goal
 
 pub told_c-requires : goal.told_c-requires

@@ -3,10 +3,6 @@
 use borrow.Author.Tests.{lt-ltb, le-ltb, eq-eqb, ne_eqb}
 use Rattle.laws.proofs.Choice.{pick_yes, pick_no}
 use Rattle.images.specs.Image.{area_after_def}
-use borrow.Author.Rules.{rules}
-use Rattle.std.proofs.Common.{◌≡◌, ◌+◌, ◌^◌, ◌≤◌, ◌<◌, length, ℕ, ◌-◌, ◌*◌, ◌/◌, ◌%◌, Bool, true, false, nat_eq, nat_lt, List, [], ◌∷◌, ◌++◌, slice_index_or, slice_set, bit_and, bit_or, Fits, w8, w32, w64, Bor, MutBor}
-use Rattle.images.specs.Image.{le16_at, le32_at, header_ok, area_in_def, entries, hash_of, image_in_def}
-use Rattle.images.specs.Inner.{noted, found_at}
 use Rattle.images.proofs.area_after.Goals as goal
 
 pub returns-then-region-end : goal.returns-then-region-end

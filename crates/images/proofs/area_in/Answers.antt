@@ -1,12 +1,8 @@
 -- `images::area_in` meets its contract: the header check comes first, then the header's size, then the area.
 -- Assumes nothing.
-use borrow.Author.Tests.{lt-ltb, le-ltb, not-true, not-false}
+use borrow.Author.Tests.{lt-ltb, le-ltb}
 use Rattle.laws.proofs.Choice.{pick_yes, pick_no}
 use Rattle.images.specs.Image.{area_in_def}
-use borrow.Author.Rules.{rules}
-use Rattle.std.proofs.Common.{◌≡◌, ◌+◌, ◌^◌, ◌≤◌, ◌<◌, length, ℕ, ◌-◌, ◌*◌, ◌/◌, ◌%◌, Bool, true, false, nat_eq, nat_lt, List, [], ◌∷◌, ◌++◌, slice_index_or, slice_set, bit_and, bit_or, Fits, w8, w32, w64, Bor, MutBor}
-use Rattle.images.specs.Image.{le16_at, le32_at, header_ok, area_after_def, entries, hash_of, image_in_def}
-use Rattle.images.specs.Inner.{noted, found_at}
 use Rattle.images.proofs.area_in.Goals as goal
 
 pub returns-then-not-passes : goal.returns-then-not-passes

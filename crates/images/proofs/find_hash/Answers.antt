@@ -7,10 +7,6 @@ use Rattle.images.specs.declared.Found.{Found}
 use Rattle.images.specs.Image.{entry_at}
 use Rattle.images.specs.Inner.{noted}
 use Rattle.images.proofs.Laws.{entries_cut, entries_long, Came, came_none, came_more, came_bad, came_end}
-use borrow.Author.Rules.{rules}
-use Rattle.std.proofs.Common.{◌^◌, ◌<◌, length, ◌*◌, ◌/◌, ◌%◌, Bool, true, false, nat_eq, nat_lt, List, [], ◌∷◌, ◌++◌, slice_index_or, slice_set, bit_and, bit_or, Fits, w8, w32, w64, Bor, MutBor}
-use Rattle.images.specs.Image.{le16_at, le32_at, header_ok, area_after_def, area_in_def, entries, hash_of, image_in_def}
-use Rattle.images.specs.Inner.{found_at}
 use Rattle.images.proofs.find_hash.Goals as goal
 
 pub loop-at-init : goal.loop-at-init

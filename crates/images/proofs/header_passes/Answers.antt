@@ -3,10 +3,6 @@
 use borrow.Author.Tests.{eq-eqb, ne_eqb}
 use Rattle.laws.proofs.Choice.{both_yes, both_no}
 use Rattle.images.specs.Image.{header_ok}
-use borrow.Author.Rules.{rules}
-use Rattle.std.proofs.Common.{◌≡◌, ◌+◌, ◌^◌, ◌≤◌, ◌<◌, length, ℕ, ◌-◌, ◌*◌, ◌/◌, ◌%◌, Bool, true, false, nat_eq, nat_lt, List, [], ◌∷◌, ◌++◌, slice_index_or, slice_set, bit_and, bit_or, Fits, w8, w32, w64, Bor, MutBor}
-use Rattle.images.specs.Image.{le16_at, le32_at, area_after_def, area_in_def, entries, hash_of, image_in_def}
-use Rattle.images.specs.Inner.{noted, found_at}
 use Rattle.images.proofs.header_passes.Goals as goal
 
 pub returns-then-magic-ne2532554813 : goal.returns-then-magic-ne2532554813

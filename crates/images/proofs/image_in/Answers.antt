@@ -8,10 +8,6 @@ use Rattle.images.specs.declared.Found.{Found}
 use Rattle.images.specs.Image.{image_with}
 use Rattle.images.specs.Inner.{found_at}
 use Rattle.images.proofs.Laws.{AreaWithin, area_within, image_none, image_found}
-use borrow.Author.Rules.{rules}
-use Rattle.std.proofs.Common.{◌≡◌, ◌+◌, ◌^◌, ◌≤◌, ◌<◌, length, ◌-◌, ◌*◌, ◌/◌, ◌%◌, Bool, true, false, nat_eq, nat_lt, List, [], ◌∷◌, ◌++◌, slice_index_or, slice_set, bit_and, bit_or, Fits, w8, w32, w64, Bor, MutBor}
-use Rattle.images.specs.Image.{le16_at, le32_at, header_ok, area_after_def, area_in_def, entries, hash_of, image_in_def}
-use Rattle.images.specs.Inner.{noted}
 use Rattle.images.proofs.image_in.Goals as goal
 
 pub returns-in_default : goal.returns-in_default

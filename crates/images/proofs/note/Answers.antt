@@ -6,10 +6,6 @@ use Rattle.laws.proofs.Choice.{pick_yes, pick_no}
 use Rattle.images.specs.declared.Found.{Found}
 use Rattle.images.specs.Image.{Entry}
 use Rattle.images.specs.Inner.{hash_noted, noted}
-use borrow.Author.Rules.{rules}
-use Rattle.std.proofs.Common.{◌+◌, ◌^◌, ◌≤◌, ◌<◌, length, ℕ, ◌-◌, ◌*◌, ◌/◌, ◌%◌, Bool, true, false, nat_eq, nat_lt, List, [], ◌∷◌, ◌++◌, slice_index_or, slice_set, bit_and, bit_or, Fits, w8, w32, w64, Bor, MutBor}
-use Rattle.images.specs.Image.{le16_at, le32_at, header_ok, area_after_def, area_in_def, entries, hash_of, image_in_def}
-use Rattle.images.specs.Inner.{found_at}
 use Rattle.images.proofs.note.Goals as goal
 
 -- `images::note` meets its contract: other entries leave what was found, and a SHA-256 entry counts by what was found before it.

@@ -5,9 +5,6 @@ use native.Mathlib.Omega.{arith}
 use Rattle.records.specs.Results.{went_on_def}
 use Rattle.widths.proofs.Steps.{step_small}
 use Rattle.line_calls.proofs.Told.{went, stayed}
-use borrow.Author.Rules.{rules}
-use Rattle.std.proofs.Common.{◌≡◌, ℕ, ◌+◌, ◌-◌, ◌*◌, ◌<◌, ◌≤◌, length, ◌/◌, ◌%◌, Bool, true, false, nat_eq, nat_lt, List, [], ◌∷◌, ◌++◌, slice_index_or, slice_set, bit_and, bit_or, Fits, w8, w32, w64, Bor, MutBor}
-use Rattle.line_calls.specs.Calls.{collected_c, took_line, sent_frame}
 use Rattle.line_calls.proofs.collect.Goals as goal
 
 pub step_length-length-requires : goal.step_length-length-requires

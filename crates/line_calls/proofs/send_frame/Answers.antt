@@ -7,9 +7,6 @@ use Rattle.sender.specs.declared.Sent.{Sent}
 use Rattle.sender.specs.Sender.{Outcome, told}
 use Rattle.line_calls.specs.Calls.{SentFrame, sent_by, sent_frame}
 use Rattle.widths.proofs.Writers.{sent_small}
-use borrow.Author.Rules.{rules}
-use Rattle.std.proofs.Common.{◌≡◌, ◌+◌, ◌-◌, ◌*◌, ◌<◌, ◌≤◌, length, ◌/◌, ◌%◌, Bool, true, false, nat_eq, nat_lt, List, [], ◌∷◌, ◌++◌, slice_index_or, slice_set, bit_and, bit_or, Fits, w8, w32, w64, Bor, MutBor}
-use Rattle.line_calls.specs.Calls.{collected_c, took_line}
 use Rattle.line_calls.proofs.send_frame.Goals as goal
 
 pub overflow_cast-sent : goal.overflow_cast-sent

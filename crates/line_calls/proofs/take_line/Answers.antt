@@ -3,9 +3,6 @@
 use mathlib.Core.Path.{sym, ◌∙◌}
 use Rattle.widths.proofs.Lines.{taken_small}
 use Rattle.line_calls.proofs.Told.{took_is}
-use borrow.Author.Rules.{rules}
-use Rattle.std.proofs.Common.{◌≡◌, ℕ, ◌+◌, ◌-◌, ◌*◌, ◌<◌, ◌≤◌, length, ◌/◌, ◌%◌, Bool, true, false, nat_eq, nat_lt, List, [], ◌∷◌, ◌++◌, slice_index_or, slice_set, bit_and, bit_or, Fits, w8, w32, w64, Bor, MutBor}
-use Rattle.line_calls.specs.Calls.{collected_c, took_line, sent_frame}
 use Rattle.line_calls.proofs.take_line.Goals as goal
 
 pub told_line-requires : goal.told_line-requires

@@ -7,20 +7,8 @@ use native.Mathlib.Omega.{arith}
 use lib.Dec.{lit<}
 use lib.ListN.{length, take, drop, length-take, length-drop}
 use Rattle.cbor.specs.Write.{head_of}
-use Rattle.smp.proofs.Writing.{put_then, room_first, room_rest}
+use Rattle.smp.proofs.Writing.{put_then, room_first}
 use Rattle.listing.proofs.Laws.{hash_parts}
-use borrow.Author.Rules.{rules}
-use Rattle.std.proofs.Common.{true, ◌≤◌, ◌<◌, ◌*◌, ◌/◌, ◌%◌, Bool, false, nat_eq, nat_lt, [], ◌∷◌, ◌++◌, slice_index_or, slice_set, bit_and, bit_or, Fits, w8, w32, w64, Bor, MutBor}
-use Rattle.laws.specs.Parts.{part_of}
-use Rattle.cbor.specs.Inner.{Put}
-use Rattle.cbor.specs.Write.{bytes_of, text_of}
-use Rattle.session.specs.Session.{layout_ok}
-use Rattle.slot.specs.History.{slot_in}
-use Rattle.smp.specs.Reply.{reply_packet}
-use Rattle.smp.specs.Inner.{Written}
-use Rattle.images.specs.Inner.{ImageWithin}
-use Rattle.listing.specs.Listing.{version_text, image_map, image_count, image_at_def, list_map}
-use Rattle.listing.specs.Inner.{named_part, image_length, list_front}
 use Rattle.listing.proofs.put_hash.Goals as goal
 
 pub put_head-next-requires : goal.put_head-next-requires

@@ -12,16 +12,6 @@ use Rattle.smp.proofs.Writing.{put_three, room_one, room_two, room_three}
 use Rattle.listing.specs.Listing.{name_hash, image_map}
 use Rattle.listing.specs.Inner.{named_part}
 use Rattle.listing.proofs.Laws.{image_parts}
-use borrow.Author.Rules.{rules}
-use Rattle.std.proofs.Common.{◌≡◌, true, ◌+◌, ◌≤◌, ◌<◌, length, ◌-◌, ◌*◌, ◌/◌, ◌%◌, Bool, false, nat_eq, nat_lt, [], ◌∷◌, ◌++◌, slice_index_or, slice_set, bit_and, bit_or, Fits, w8, w32, w64, Bor, MutBor}
-use Rattle.cbor.specs.Inner.{Put}
-use Rattle.session.specs.Session.{layout_ok}
-use Rattle.slot.specs.History.{slot_in}
-use Rattle.smp.specs.Reply.{reply_packet}
-use Rattle.smp.specs.Inner.{Written}
-use Rattle.images.specs.Inner.{ImageWithin}
-use Rattle.listing.specs.Listing.{version_text, image_count, image_at_def, list_map}
-use Rattle.listing.specs.Inner.{image_length, list_front}
 use Rattle.listing.proofs.put_image.Goals as goal
 
 pub returns-in_default : goal.returns-in_default

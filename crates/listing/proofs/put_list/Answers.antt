@@ -10,17 +10,6 @@ use Rattle.smp.proofs.Writing.{put_three, room_one, room_two, room_three, packet
 use Rattle.listing.specs.Listing.{image_map, list_map}
 use Rattle.listing.specs.Inner.{list_front}
 use Rattle.listing.proofs.Laws.{list_parts}
-use borrow.Author.Rules.{rules}
-use Rattle.std.proofs.Common.{◌≡◌, true, ◌≤◌, ◌<◌, length, ◌-◌, ◌*◌, ◌/◌, ◌%◌, Bool, false, nat_eq, nat_lt, [], ◌∷◌, ◌++◌, slice_index_or, slice_set, bit_and, bit_or, Fits, w8, w32, w64, Bor, MutBor}
-use Rattle.laws.specs.Parts.{part_of}
-use Rattle.cbor.specs.Inner.{Put}
-use Rattle.cbor.specs.Write.{bytes_of, text_of}
-use Rattle.session.specs.Session.{layout_ok}
-use Rattle.smp.specs.Reply.{reply_packet}
-use Rattle.smp.specs.Inner.{Written}
-use Rattle.images.specs.Inner.{ImageWithin}
-use Rattle.listing.specs.Listing.{version_text, image_count, image_at_def}
-use Rattle.listing.specs.Inner.{named_part, image_length}
 use Rattle.listing.proofs.put_list.Goals as goal
 
 pub put_front-from-requires : goal.put_front-from-requires

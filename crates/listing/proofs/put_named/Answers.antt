@@ -2,25 +2,11 @@
 -- Assumes nothing.
 use mathlib.Core.List.{List, ◌++◌}
 use Prim.Native.Nat.{ℕ}
-use native.Mathlib.Omega.{arith}
-use lib.Dec.{lit<}
 use Rattle.cbor.specs.Write.{unsigned, text_of, map_of}
 use Rattle.fields.specs.Keys.{name_slot}
-use Rattle.smp.proofs.Writing.{put_then, put_three, room_first, room_rest, room_one, room_two, room_three}
+use Rattle.smp.proofs.Writing.{put_then, put_three, room_first}
 use Rattle.listing.specs.Listing.{name_version, version_text}
 use Rattle.listing.proofs.Laws.{four_parts}
-use borrow.Author.Rules.{rules}
-use Rattle.std.proofs.Common.{◌≡◌, true, ◌+◌, ◌≤◌, ◌<◌, length, ◌-◌, ◌*◌, ◌/◌, ◌%◌, Bool, false, nat_eq, nat_lt, [], ◌∷◌, slice_index_or, slice_set, bit_and, bit_or, Fits, w8, w32, w64, Bor, MutBor}
-use Rattle.laws.specs.Parts.{part_of}
-use Rattle.cbor.specs.Inner.{Put}
-use Rattle.cbor.specs.Write.{bytes_of}
-use Rattle.session.specs.Session.{layout_ok}
-use Rattle.slot.specs.History.{slot_in}
-use Rattle.smp.specs.Reply.{reply_packet}
-use Rattle.smp.specs.Inner.{Written}
-use Rattle.images.specs.Inner.{ImageWithin}
-use Rattle.listing.specs.Listing.{image_map, image_count, image_at_def, list_map}
-use Rattle.listing.specs.Inner.{named_part, image_length, list_front}
 use Rattle.listing.proofs.put_named.Goals as goal
 
 pub returns : goal.returns

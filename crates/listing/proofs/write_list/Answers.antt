@@ -11,18 +11,6 @@ use Rattle.smp.proofs.Writing.{written_whole, written_seven}
 use Rattle.listing.specs.Listing.{list_map}
 use Rattle.listing.specs.Inner.{image_length}
 use Rattle.listing.proofs.Laws.{list_long}
-use borrow.Author.Rules.{rules}
-use Rattle.std.proofs.Common.{◌≡◌, true, ◌≤◌, ◌<◌, ◌-◌, ◌*◌, ◌/◌, ◌%◌, Bool, false, nat_eq, nat_lt, [], ◌∷◌, ◌++◌, slice_index_or, slice_set, bit_and, bit_or, Fits, w8, w32, w64, Bor, MutBor}
-use Rattle.laws.specs.Parts.{part_of}
-use Rattle.cbor.specs.Inner.{Put}
-use Rattle.cbor.specs.Write.{bytes_of, text_of}
-use Rattle.session.specs.Session.{layout_ok}
-use Rattle.slot.specs.History.{slot_in}
-use Rattle.smp.specs.Reply.{reply_packet}
-use Rattle.smp.specs.Inner.{Written}
-use Rattle.images.specs.Inner.{ImageWithin}
-use Rattle.listing.specs.Listing.{version_text, image_map, image_count, image_at_def}
-use Rattle.listing.specs.Inner.{named_part, list_front}
 use Rattle.listing.proofs.write_list.Goals as goal
 
 pub image_at-first-requires : goal.image_at-first-requires

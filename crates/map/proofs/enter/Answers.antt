@@ -7,12 +7,6 @@ use Rattle.fields.specs.Keys.{type_of, type_for_def}
 use Rattle.fields.specs.Fields.{place_of_def}
 use Rattle.map.specs.Walk.{up_to}
 use Rattle.map.proofs.Ways.{enter_other, enter_twice, enter_type, enter_field, finds_bad, finds_to}
-use borrow.Author.Rules.{rules}
-use Rattle.std.proofs.Common.{◌+◌, ◌-◌, ◌*◌, ◌<◌, ◌≤◌, length, ◌/◌, ◌%◌, Bool, true, false, nat_eq, nat_lt, List, [], ◌∷◌, ◌++◌, slice_index_or, slice_set, bit_and, bit_or, Fits, w8, w32, w64, Bor, MutBor}
-use Rattle.cbor.specs.Read.{item_at}
-use Rattle.fields.specs.Fields.{nothing}
-use Rattle.map.specs.Walk.{entered, valued, pair_at, pairs, map_at_def, map_from_def}
-use Rattle.map.specs.Inner.{Finds, Reads}
 use Rattle.map.proofs.enter.Goals as goal
 
 pub returns-then-wanted-eq99 : goal.returns-then-wanted-eq99

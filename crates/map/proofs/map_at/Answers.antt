@@ -2,12 +2,6 @@
 -- Assumes nothing.
 use mathlib.Core.Path.{sym, ◌∙◌}
 use Rattle.map.proofs.Ways.{map_bad, map_other, map_pairs, finds_bad, finds_by}
-use borrow.Author.Rules.{rules}
-use Rattle.std.proofs.Common.{◌≡◌, ℕ, ◌+◌, ◌-◌, ◌*◌, ◌<◌, ◌≤◌, length, ◌/◌, ◌%◌, Bool, true, false, nat_eq, nat_lt, List, [], ◌∷◌, ◌++◌, slice_index_or, slice_set, bit_and, bit_or, Fits, w8, w32, w64, Bor, MutBor}
-use Rattle.cbor.specs.Read.{item_at}
-use Rattle.fields.specs.Fields.{nothing}
-use Rattle.map.specs.Walk.{entered, valued, pair_at, pairs, map_at_def, map_from_def}
-use Rattle.map.specs.Inner.{Finds, Reads}
 use Rattle.map.proofs.map_at.Goals as goal
 
 pub returns-in_default : goal.returns-in_default

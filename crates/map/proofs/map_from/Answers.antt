@@ -7,11 +7,6 @@ use Prim.Native.Nat.{ℕ}
 use Rattle.map.specs.Walk.{malformed, map_at_def}
 use Rattle.fields.specs.Fields.{nothing}
 use Rattle.map.proofs.Ways.{from_empty, from_bad, from_ends, reads_bad, reads_map, found_bad, found_to}
-use borrow.Author.Rules.{rules}
-use Rattle.std.proofs.Common.{◌+◌, ◌-◌, ◌*◌, ◌<◌, ◌≤◌, length, ◌/◌, ◌%◌, Bool, true, false, nat_eq, nat_lt, [], ◌∷◌, ◌++◌, slice_index_or, slice_set, bit_and, bit_or, Fits, w8, w32, w64, Bor, MutBor}
-use Rattle.cbor.specs.Read.{item_at}
-use Rattle.map.specs.Walk.{entered, valued, pair_at, pairs, map_from_def}
-use Rattle.map.specs.Inner.{Finds, Reads}
 use Rattle.map.proofs.map_from.Goals as goal
 
 pub returns-then-s-from : goal.returns-then-s-from

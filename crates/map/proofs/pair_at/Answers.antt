@@ -8,11 +8,6 @@ use Rattle.cbor.proofs.Laws.{head_place}
 use Rattle.fields.specs.declared.Key.{Key}
 use Rattle.map.specs.Walk.{valued}
 use Rattle.map.proofs.Ways.{pair_bad, pair-other, pair-cut, pair-whole, finds_bad, finds_by}
-use borrow.Author.Rules.{rules}
-use Rattle.std.proofs.Common.{◌≡◌, ℕ, ◌-◌, ◌*◌, ◌<◌, ◌≤◌, length, ◌/◌, ◌%◌, Bool, true, false, nat_eq, nat_lt, List, [], ◌∷◌, ◌++◌, slice_index_or, slice_set, bit_and, bit_or, Fits, w8, w32, w64, Bor, MutBor}
-use Rattle.fields.specs.Fields.{nothing}
-use Rattle.map.specs.Walk.{entered, pair_at, pairs, map_at_def, map_from_def}
-use Rattle.map.specs.Inner.{Finds, Reads}
 use Rattle.map.proofs.pair_at.Goals as goal
 
 pub returns-in_default : goal.returns-in_default

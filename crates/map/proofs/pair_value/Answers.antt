@@ -4,12 +4,6 @@ use mathlib.Core.Path.{sym, ◌∙◌}
 use Rattle.map.proofs.Ways.{value_bad, value_is, finds_bad, finds_by}
 use mathlib.Core.Path.{sym, ◌∙◌}
 use Rattle.map.proofs.Ways.{value_bad, value_is, finds_bad}
-use borrow.Author.Rules.{rules}
-use Rattle.std.proofs.Common.{◌≡◌, ℕ, ◌+◌, ◌-◌, ◌*◌, ◌<◌, ◌≤◌, length, ◌/◌, ◌%◌, Bool, true, false, nat_eq, nat_lt, List, [], ◌∷◌, ◌++◌, slice_index_or, slice_set, bit_and, bit_or, Fits, w8, w32, w64, Bor, MutBor}
-use Rattle.cbor.specs.Read.{item_at}
-use Rattle.fields.specs.Fields.{nothing}
-use Rattle.map.specs.Walk.{entered, valued, pair_at, pairs, map_at_def, map_from_def}
-use Rattle.map.specs.Inner.{Finds, Reads}
 use Rattle.map.proofs.pair_value.Goals as goal
 
 pub returns-in_default : goal.returns-in_default

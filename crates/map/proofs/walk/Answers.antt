@@ -2,16 +2,9 @@
 -- of them come to.
 -- Assumes nothing.
 -- Assumes nothing.
-use mathlib.Core.Path.{◌≡◌, refl, ◌∙◌}
+use mathlib.Core.Path.{◌∙◌}
 use native.Mathlib.Omega.{arith}
-use Rattle.map.specs.Walk.{pairs}
 use Rattle.map.proofs.Ways.{found_bad, found_to, finds_bad, finds_to, pairs_end, pairs_bad, pairs_on}
-use borrow.Author.Rules.{rules}
-use Rattle.std.proofs.Common.{ℕ, ◌+◌, ◌-◌, ◌*◌, ◌<◌, ◌≤◌, length, ◌/◌, ◌%◌, Bool, true, false, nat_eq, nat_lt, List, [], ◌∷◌, ◌++◌, slice_index_or, slice_set, bit_and, bit_or, Fits, w8, w32, w64, Bor, MutBor}
-use Rattle.cbor.specs.Read.{item_at}
-use Rattle.fields.specs.Fields.{nothing}
-use Rattle.map.specs.Walk.{entered, valued, pair_at, map_at_def, map_from_def}
-use Rattle.map.specs.Inner.{Finds, Reads}
 use Rattle.map.proofs.walk.Goals as goal
 
 pub returns-in_default : goal.returns-in_default

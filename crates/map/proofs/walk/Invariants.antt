@@ -2,11 +2,8 @@
 -- of them come to.
 -- Assumes nothing.
 -- Assumes nothing.
-use mathlib.Core.Path.{◌≡◌, refl, ◌∙◌}
-use native.Mathlib.Omega.{arith}
+use mathlib.Core.Path.{◌≡◌}
 use Rattle.map.specs.Walk.{pairs}
-use Rattle.map.proofs.Ways.{found_bad, found_to, finds_bad, finds_to, pairs_end, pairs_bad, pairs_on}
-use borrow.Author.Rules.{rules}
 use Rattle.map.proofs.walk.Given as goal
 
 abbrev pub invariant-loop-left : goal.invariant-loop-left

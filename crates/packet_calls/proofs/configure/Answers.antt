@@ -8,9 +8,6 @@ use Rattle.session.specs.Session.{Said, said, configured}
 use Rattle.fields.specs.Fields.{flag_number_def}
 use Rattle.records.specs.Records.{session_numbers}
 use Rattle.packet_calls.specs.Calls.{ConfiguredC, configured_by, configured_c}
-use borrow.Author.Rules.{rules}
-use Rattle.std.proofs.Common.{◌≡◌, ◌+◌, ◌-◌, ◌*◌, ◌<◌, ◌≤◌, length, ◌/◌, ◌%◌, Bool, true, false, nat_eq, nat_lt, List, [], ◌∷◌, ◌++◌, slice_index_or, slice_set, bit_and, bit_or, Fits, w8, w32, w64, Bor, MutBor}
-use Rattle.packet_calls.specs.Calls.{handled_c, read_c}
 use Rattle.packet_calls.proofs.configure.Goals as goal
 
 pub returns-in-Ready : goal.returns-in-Ready

@@ -4,9 +4,6 @@ use mathlib.Core.Path.{sym, ◌∙◌}
 use Rattle.session.specs.Session.{state_of}
 use Rattle.widths.proofs.Sessions.{given_small}
 use Rattle.packet_calls.proofs.Told.{handled_is}
-use borrow.Author.Rules.{rules}
-use Rattle.std.proofs.Common.{◌≡◌, ℕ, ◌+◌, ◌-◌, ◌*◌, ◌<◌, ◌≤◌, length, ◌/◌, ◌%◌, Bool, true, false, nat_eq, nat_lt, List, [], ◌∷◌, ◌++◌, slice_index_or, slice_set, bit_and, bit_or, Fits, w8, w32, w64, Bor, MutBor}
-use Rattle.packet_calls.specs.Calls.{handled_c, configured_c, read_c}
 use Rattle.packet_calls.proofs.handle.Goals as goal
 
 pub told_handled-requires : goal.told_handled-requires

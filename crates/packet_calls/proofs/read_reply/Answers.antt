@@ -8,9 +8,6 @@ use Rattle.replies.specs.declared.Heard.{Heard}
 use Rattle.replies.specs.Read.{Said, said}
 use Rattle.packet_calls.specs.Calls.{ReadC, read_by, read_c}
 use Rattle.widths.proofs.Reading.{reply_small}
-use borrow.Author.Rules.{rules}
-use Rattle.std.proofs.Common.{◌≡◌, ◌+◌, ◌-◌, ◌*◌, ◌<◌, ◌≤◌, length, ◌/◌, ◌%◌, Bool, true, false, nat_eq, nat_lt, [], ◌∷◌, ◌++◌, slice_index_or, slice_set, bit_and, bit_or, Fits, w8, w32, w64, Bor, MutBor}
-use Rattle.packet_calls.specs.Calls.{handled_c, configured_c}
 use Rattle.packet_calls.proofs.read_reply.Goals as goal
 
 pub reply_numbers-requires : goal.reply_numbers-requires

@@ -2,12 +2,7 @@
 -- Assumes nothing.
 use mathlib.Core.Path.{sym}
 use native.Mathlib.Omega.{arith}
-use borrow.Author.Tests.{not-true, not-false}
 use Rattle.pages.proofs.Laws.{agrees_short, agrees_unfilled, agrees_part, agrees_all, agrees_last, full_pages}
-use borrow.Author.Rules.{rules}
-use Rattle.std.proofs.Common.{◌≡◌, true, false, ℕ, ◌+◌, ◌*◌, ◌-◌, ◌≤◌, ◌<◌, min, length, ◌/◌, ◌%◌, Bool, nat_eq, nat_lt, List, [], ◌∷◌, ◌++◌, slice_index_or, slice_set, bit_and, bit_or, Fits, w8, w32, w64, Bor, MutBor}
-use Rattle.pages.specs.Pages.{page_size, pages_of_def, counted, agrees, stretches}
-use Rattle.pages.specs.Inner.{AllAre, OneIsNot}
 use Rattle.pages.proofs.agree.Goals as goal
 
 pub returns-then-counts-pages : goal.returns-then-counts-pages

@@ -1,15 +1,11 @@
 -- `pages::are_all` meets its contract: what was found so far, and one entry more.
 -- Assumes nothing.
-use mathlib.Core.Path.{refl}
-use mathlib.Core.Logic.{⊎_elim}
-use mathlib.Core.Bool.{true}
 use Prim.Native.Nat.{◌+◌, ◌-◌, ◌≤◌}
-use native.Mathlib.Omega.{arith}
-use Rattle.pages.proofs.Laws.{Found, found_other, found_same, found_all, found_none}
+use Rattle.pages.proofs.Laws.{Found}
 use Rattle.pages.proofs.are_all.Given as goal
 
 abbrev pub invariant-loop-k : goal.invariant-loop-k
-invariant-loop-k l =     (l.from ≤ l.k)
+invariant-loop-k l = (l.from ≤ l.k)
     × (l.k ≤ l.from + (l.to - l.from))
     × Found l.counts l.from l.k l.v l.all
 

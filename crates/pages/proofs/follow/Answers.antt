@@ -1,14 +1,7 @@
 -- `pages::follow` meets its contract: the entries below the lower place and from the higher place on are the same for both.
 -- Assumes nothing.
-use mathlib.Core.Path.{◌≡◌, ap, ◌∙◌}
-use mathlib.Core.Logic.{⊎_elim}
-use Prim.Native.Nat.{ℕ, ◌*◌, ◌-◌, ◌/◌, min, max}
 use native.Mathlib.Omega.{arith}
-use Rattle.pages.specs.Pages.{page_size}
-use Rattle.pages.proofs.Laws.{Followed, followed_none, followed_more, followed_all}
-use Rattle.std.proofs.Common.{rules, true, false, ◌+◌, ◌≤◌, ◌<◌, length, ◌%◌, Bool, nat_eq, nat_lt, List, [], ◌∷◌, ◌++◌, slice_index_or, slice_set, bit_and, bit_or, Fits, w8, w32, w64, Bor, MutBor}
-use Rattle.pages.specs.Pages.{pages_of_def, counted, agrees, stretches}
-use Rattle.pages.specs.Inner.{AllAre, OneIsNot}
+use Rattle.pages.proofs.Laws.{followed_all}
 use Rattle.pages.proofs.follow.Goals as goal
 use Rattle.pages.proofs.follow.Goals.{then-after-before, else-after-before}
 

@@ -4,18 +4,10 @@ use mathlib.Core.Path.{sym, ap, ◌∙◌}
 use mathlib.Core.List.{List}
 use Prim.Native.Nat.{ℕ, ◌-◌}
 use native.Mathlib.Omega.{arith}
-use lib.ListN.{length-take, take}
+use lib.ListN.{take}
 use Rattle.crc.specs.Crc.{onward, crc_of_def}
 use Rattle.crc.proofs.Laws.{onward_join}
 use Rattle.reader.proofs.Laws.{due_both, filled_none}
-use borrow.Author.Rules.{rules}
-use Rattle.std.proofs.Common.{◌≡◌, ◌+◌, ◌≤◌, ◌<◌, length, get_or, ◌*◌, ◌/◌, ◌%◌, Bool, true, false, nat_eq, nat_lt, [], ◌∷◌, ◌++◌, slice_set, bit_and, bit_or, Fits, w8, w32, w64, Bor, MutBor}
-use Rattle.laws.specs.Bytes.{of_be16}
-use Rattle.strict_base64.specs.Base64.{decode}
-use Rattle.decoder.specs.Inner.{Decodes}
-use Rattle.frame.specs.Line.{longest, raw_most, begins_with, text_of}
-use Rattle.reader.specs.Reader.{outcome, crc_bytes, filled, waiting, completed, absorb, begin, resume, framed, place_in, decoded, take_line_def}
-use Rattle.reader.specs.Inner.{Starts}
 use Rattle.reader.proofs.crc_due.Goals as goal
 
 pub returns-then-come-b : goal.returns-then-come-b

@@ -6,15 +6,6 @@ use Prim.Native.Nat.{ℕ}
 use native.Mathlib.Nat.{add-zero}
 use lib.ListN.{get_or}
 use Rattle.reader.proofs.Laws.{crc_in_frame, crc_in_record}
-use borrow.Author.Rules.{rules}
-use Rattle.std.proofs.Common.{◌≡◌, ◌+◌, ◌-◌, ◌≤◌, ◌<◌, length, take, ◌*◌, ◌/◌, ◌%◌, Bool, true, false, nat_eq, nat_lt, [], ◌∷◌, ◌++◌, slice_set, bit_and, bit_or, Fits, w8, w32, w64, Bor, MutBor}
-use Rattle.laws.specs.Bytes.{of_be16}
-use Rattle.crc.specs.Crc.{crc_of_def}
-use Rattle.strict_base64.specs.Base64.{decode}
-use Rattle.decoder.specs.Inner.{Decodes}
-use Rattle.frame.specs.Line.{longest, raw_most, begins_with, text_of}
-use Rattle.reader.specs.Reader.{outcome, crc_bytes, filled, waiting, completed, absorb, begin, resume, framed, place_in, decoded, take_line_def}
-use Rattle.reader.specs.Inner.{Starts}
 use Rattle.reader.proofs.crc_first.Goals as goal
 
 pub returns-then-come-b : goal.returns-then-come-b

@@ -7,15 +7,6 @@ use native.Mathlib.Omega.{arith}
 use Rattle.reader.specs.declared.Reader.{Reader}
 use Rattle.reader.specs.Reader.{Outcome, more}
 use Rattle.reader.proofs.Laws.{absorb_short, absorb_many, absorb_more, absorb_last}
-use borrow.Author.Rules.{rules}
-use Rattle.std.proofs.Common.{◌≡◌, ◌+◌, ◌-◌, ◌≤◌, ◌<◌, length, get_or, take, ◌*◌, ◌/◌, ◌%◌, Bool, true, false, nat_eq, nat_lt, [], ◌∷◌, ◌++◌, slice_set, bit_and, bit_or, Fits, w8, w32, w64, Bor, MutBor}
-use Rattle.laws.specs.Bytes.{of_be16}
-use Rattle.crc.specs.Crc.{crc_of_def}
-use Rattle.strict_base64.specs.Base64.{decode}
-use Rattle.decoder.specs.Inner.{Decodes}
-use Rattle.frame.specs.Line.{longest, raw_most, begins_with, text_of}
-use Rattle.reader.specs.Reader.{outcome, crc_bytes, filled, waiting, completed, absorb, begin, resume, framed, place_in, decoded, take_line_def}
-use Rattle.reader.specs.Inner.{Starts}
 use Rattle.reader.proofs.take_bytes.Goals as goal
 
 pub returns-then-p-body : goal.returns-then-p-body

@@ -11,15 +11,7 @@ use Rattle.frame.specs.Line.{raw_most, text_of}
 use Rattle.reader.specs.declared.Reader.TheVariants.{Idle}
 use Rattle.reader.specs.Reader.{is_bad_text, place_in}
 use Rattle.reader.proofs.Laws.{decoded_bad, decoded_good, text_size}
-use borrow.Author.Rules.{rules}
 use Rattle.reader.proofs.take_frame.Goals.{In-Bytes}
-use Rattle.std.proofs.Common.{List, ◌+◌, ◌-◌, ◌<◌, get_or, ◌%◌, Bool, true, false, nat_eq, nat_lt, [], ◌∷◌, ◌++◌, slice_set, bit_and, bit_or, Fits, w8, w32, w64, Bor, MutBor}
-use Rattle.laws.specs.Bytes.{of_be16}
-use Rattle.crc.specs.Crc.{crc_of_def}
-use Rattle.decoder.specs.Inner.{Decodes}
-use Rattle.frame.specs.Line.{longest, begins_with}
-use Rattle.reader.specs.Reader.{outcome, crc_bytes, filled, waiting, completed, absorb, begin, resume, framed, decoded, take_line_def}
-use Rattle.reader.specs.Inner.{Starts}
 use Rattle.reader.proofs.take_frame.Goals as goal
 
 -- the text of this line decodes to what stands at the start of the raw bytes, three at most for each four characters

@@ -3,18 +3,8 @@
 use mathlib.Core.Path.{◌≡◌, sym, ◌∙◌}
 use mathlib.Core.Bool.{true, false, false≢true}
 use native.Mathlib.Omega.{arith}
-use borrow.Author.Tests.{not-true, not-false}
 use Rattle.frame.specs.Line.{partial, begins_with}
 use Rattle.reader.proofs.Laws.{line_long, line_short, line_unended, line_unmarked, line_framed}
-use borrow.Author.Rules.{rules}
-use Rattle.std.proofs.Common.{List, ℕ, ◌+◌, ◌-◌, ◌≤◌, ◌<◌, length, get_or, take, ◌*◌, ◌/◌, ◌%◌, Bool, nat_eq, nat_lt, [], ◌∷◌, ◌++◌, slice_set, bit_and, bit_or, Fits, w8, w32, w64, Bor, MutBor}
-use Rattle.laws.specs.Bytes.{of_be16}
-use Rattle.crc.specs.Crc.{crc_of_def}
-use Rattle.strict_base64.specs.Base64.{decode}
-use Rattle.decoder.specs.Inner.{Decodes}
-use Rattle.frame.specs.Line.{longest, raw_most, text_of}
-use Rattle.reader.specs.Reader.{outcome, crc_bytes, filled, waiting, completed, absorb, begin, resume, framed, place_in, decoded, take_line_def}
-use Rattle.reader.specs.Inner.{Starts}
 use Rattle.reader.proofs.take_line.Goals as goal
 use Rattle.reader.proofs.take_line.Goals.{then-not-initial+else-not-begins, else-not-initial}
 

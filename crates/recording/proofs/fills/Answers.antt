@@ -1,15 +1,12 @@
 -- `recording::fills` meets its contract. The loop's invariant: from here on there are as many records as are left exactly where there are all of them
 -- from the start; one record fewer is left with each turn.
 -- Assumes nothing.
-use mathlib.Core.Path.{◌≡◌, refl, sym, ap, ◌∙◌}
+use mathlib.Core.Path.{◌≡◌, sym, ap, ◌∙◌}
 use Prim.Native.Nat.{ℕ, suc, ◌+◌, ◌-◌}
 use native.Mathlib.Omega.{arith}
-use borrow.Author.Rules.{rules}
 use Rattle.recording.specs.declared.Found.TheVariants.{Whole, Cut}
 use Rattle.recording.specs.Recording.{record_at_def, trailer_at, entries_from, is_some}
 use Rattle.recording.proofs.Laws.{record_inside, entries_cut, entries_next, entry_of, some_before, some_none, some_end}
-use Rattle.std.proofs.Common.{◌^◌, ◌≤◌, ◌<◌, length, ◌*◌, ◌/◌, ◌%◌, Bool, true, false, nat_eq, nat_lt, List, [], ◌∷◌, ◌++◌, slice_index_or, slice_set, bit_and, bit_or, Fits, w8, w32, w64, Bor, MutBor}
-use Rattle.recording.specs.Recording.{be16_at, be32_at, said, line_at, step_at_def, begun, first_record_def}
 use Rattle.recording.proofs.fills.Goals as goal
 
 pub returns-in_default : goal.returns-in_default

@@ -1,13 +1,8 @@
 -- `recording::fills` meets its contract. The loop's invariant: from here on there are as many records as are left exactly where there are all of them
 -- from the start; one record fewer is left with each turn.
 -- Assumes nothing.
-use mathlib.Core.Path.{◌≡◌, refl, sym, ap, ◌∙◌}
-use Prim.Native.Nat.{ℕ, suc, ◌+◌, ◌-◌}
-use native.Mathlib.Omega.{arith}
-use borrow.Author.Rules.{rules}
-use Rattle.recording.specs.declared.Found.TheVariants.{Whole, Cut}
-use Rattle.recording.specs.Recording.{record_at_def, trailer_at, entries_from, is_some}
-use Rattle.recording.proofs.Laws.{record_inside, entries_cut, entries_next, entry_of, some_before, some_none, some_end}
+use mathlib.Core.Path.{◌≡◌}
+use Rattle.recording.specs.Recording.{entries_from, is_some}
 use Rattle.recording.proofs.fills.Given as goal
 
 abbrev pub invariant-loop-left : goal.invariant-loop-left

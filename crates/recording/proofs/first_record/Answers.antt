@@ -2,11 +2,7 @@
 -- Assumes nothing.
 use mathlib.Core.Path.{sym, ◌∙◌}
 use native.Mathlib.Omega.{arith}
-use borrow.Author.Rules.{rules}
-use borrow.Author.Tests.{not-true, not-false}
 use Rattle.recording.proofs.Laws.{first_short, first_far, first_no, first_yes}
-use Rattle.std.proofs.Common.{◌≡◌, ◌+◌, ◌^◌, ◌≤◌, ◌<◌, length, ℕ, ◌-◌, ◌*◌, ◌/◌, ◌%◌, Bool, true, false, nat_eq, nat_lt, List, [], ◌∷◌, ◌++◌, slice_index_or, slice_set, bit_and, bit_or, Fits, w8, w32, w64, Bor, MutBor}
-use Rattle.recording.specs.Recording.{be16_at, be32_at, said, line_at, record_at_def, step_at_def, is_some, entries_from, begun, first_record_def}
 use Rattle.recording.proofs.first_record.Goals as goal
 
 pub returns-then-len-lt-TRAILER : goal.returns-then-len-lt-TRAILER

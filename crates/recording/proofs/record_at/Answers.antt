@@ -2,12 +2,9 @@
 -- Assumes nothing.
 use Prim.Native.Nat.{◌-◌, ◌<◌}
 use native.Mathlib.Omega.{arith}
-use borrow.Author.Rules.{rules}
 use borrow.Author.Tests.{eq-eqb, ne_eqb, lt-ltb, le-ltb}
 use Rattle.laws.proofs.Choice.{pick_yes, pick_no}
 use Rattle.recording.specs.Recording.{record_at_def}
-use Rattle.std.proofs.Common.{◌≡◌, ◌+◌, ◌^◌, ◌≤◌, length, ℕ, ◌*◌, ◌/◌, ◌%◌, Bool, true, false, nat_eq, nat_lt, List, [], ◌∷◌, ◌++◌, slice_index_or, slice_set, bit_and, bit_or, Fits, w8, w32, w64, Bor, MutBor}
-use Rattle.recording.specs.Recording.{be16_at, be32_at, said, line_at, step_at_def, is_some, entries_from, begun, first_record_def}
 use Rattle.recording.proofs.record_at.Goals as goal
 
 pub returns-then-stop-at : goal.returns-then-stop-at

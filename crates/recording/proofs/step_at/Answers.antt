@@ -1,11 +1,8 @@
 -- `recording::step_at` meets its contract: each return is the definition under the tests that led there.
 -- Assumes nothing.
-use borrow.Author.Rules.{rules}
 use borrow.Author.Tests.{eq-eqb, ne_eqb, lt-ltb, le-ltb}
 use Rattle.laws.proofs.Choice.{pick_yes, pick_no}
 use Rattle.recording.specs.Recording.{said_of, step_at_def}
-use Rattle.std.proofs.Common.{◌≡◌, ◌+◌, ◌^◌, ◌≤◌, ◌<◌, length, ℕ, ◌-◌, ◌*◌, ◌/◌, ◌%◌, Bool, true, false, nat_eq, nat_lt, List, [], ◌∷◌, ◌++◌, slice_index_or, slice_set, bit_and, bit_or, Fits, w8, w32, w64, Bor, MutBor}
-use Rattle.recording.specs.Recording.{be16_at, be32_at, said, line_at, record_at_def, is_some, entries_from, begun, first_record_def}
 use Rattle.recording.proofs.step_at.Goals as goal
 
 pub returns-then-len-lt-TRAILER : goal.returns-then-len-lt-TRAILER

@@ -1,25 +1,8 @@
 -- `records::told_line` meets its contract, case by case; what is stored fits by its precondition.
 -- Assumes nothing.
-use mathlib.Core.Path.{sym, ap, subst, ◌∙◌}
-use native.Mathlib.Omega.{arith}
-use Rattle.reader.specs.declared.Answer.{Answer}
-use Rattle.reader.specs.Reader.{said}
+use mathlib.Core.Path.{sym, ◌∙◌}
 use Rattle.records.specs.Records.{reader_numbers}
-use Rattle.records.specs.Results.{keeps_record_def}
-use Rattle.records.specs.Inner.{SmallBy}
 use Rattle.records.proofs.Told.{took_more, took_body, took_refused, took_bad, record_kept, record_stored}
-use borrow.Author.Rules.{rules}
-use Rattle.std.proofs.Common.{◌≡◌, List, ◌≤◌, ℕ, length, ◌+◌, ◌-◌, ◌*◌, ◌<◌, ◌/◌, ◌%◌, Bool, true, false, nat_eq, nat_lt, [], ◌∷◌, ◌++◌, slice_index_or, slice_set, bit_and, bit_or, Fits, w8, w32, w64, Bor, MutBor}
-use Rattle.fields.specs.Fields.{flag_number_def}
-use Rattle.frame.specs.Line.{longest}
-use Rattle.collector.specs.Collector.{most}
-use Rattle.records.specs.Records.{layout_of, collector_from_def, collector_numbers, session_numbers, flag_of_def, reader_from_def, session_from_def, there_of_def, run_there_def, run_start_def, run_length_def, reply_numbers_def}
-use Rattle.records.specs.Results.{step_result_def, step_length_def, went_on_def, took_by, handled_by, wrote_by}
-use Rattle.records.specs.Inner.{Storable, Held32, HandledSmall, ReplySmall}
-use Rattle.reader.specs.Reader as reading
-use Rattle.controller.specs.Handle as handling
-use Rattle.host.specs.Write.{told, packet}
-use Rattle.replies.specs.Read.{or_zero}
 use Rattle.records.proofs.told_line.Goals as goal
 
 pub returns-in-More : goal.returns-in-More

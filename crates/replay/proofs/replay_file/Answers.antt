@@ -11,12 +11,6 @@ use Rattle.recording.proofs.Along.{first_begins, first_none}
 use Rattle.feed.specs.Feed.{Bench}
 use Rattle.replay.specs.Replay.{fed, ending}
 use Rattle.replay.proofs.Laws.{replayed_none, replayed_short, replayed_all}
-use borrow.Author.Rules.{rules}
-use Rattle.std.proofs.Common.{◌≡◌, ◌∷◌, ◌+◌, ◌*◌, ◌≤◌, length, ◌-◌, ◌<◌, ◌/◌, ◌%◌, Bool, true, false, nat_eq, nat_lt, [], ◌++◌, slice_index_or, slice_set, bit_and, bit_or, Fits, w8, w32, w64, Bor, MutBor}
-use Rattle.laws.specs.Bytes.{pasted}
-use Rattle.recording.specs.Recording.{Entry}
-use Rattle.replay.specs.Replay.{numbers, replayed}
-use Rattle.replay.specs.Inner.{Ahead, Ends}
 use Rattle.replay.proofs.replay_file.Goals as goal
 
 pub returns-in_default : goal.returns-in_default

@@ -3,17 +3,9 @@
 use mathlib.Core.Path.{ap, ◌∙◌}
 use mathlib.Core.List.{List}
 use Prim.Native.Nat.{ℕ, ◌+◌}
-use native.Mathlib.Omega.{arith}
-use borrow.Author.Tests.{not-true, not-false}
 use Rattle.feed.specs.Feed.{Bench}
 use Rattle.replay.specs.Replay.{fed, ending}
 use Rattle.replay.proofs.Laws.{record_passed, record_fed}
-use borrow.Author.Rules.{rules}
-use Rattle.std.proofs.Common.{◌≡◌, ◌∷◌, ◌*◌, ◌≤◌, length, ◌-◌, ◌<◌, ◌/◌, ◌%◌, Bool, true, false, nat_eq, nat_lt, [], ◌++◌, slice_index_or, slice_set, bit_and, bit_or, Fits, w8, w32, w64, Bor, MutBor}
-use Rattle.laws.specs.Bytes.{pasted}
-use Rattle.recording.specs.Recording.{Entry}
-use Rattle.replay.specs.Replay.{numbers, replayed}
-use Rattle.replay.specs.Inner.{Ahead, Ends}
 use Rattle.replay.proofs.replay_record.Goals as goal
 
 pub returns-then-not-to_controller-clause-reply_after : goal.returns-then-not-to_controller-clause-reply_after
@@ -48,5 +40,5 @@ returns-clause-reply_after c =
       packet = c.feed_line-answer.new.packet;
       reply = c.feed_line-answer.new.reply;
     } in ((λ rest. ap (λ (l : List ℕ). ending (a.count + 1) l (fed rest after)) c.store.ensures
-          ∙ record_fed a.count a.answers.now b a.to_controller a.line.now rest (record { says = c.feed_line-answer.result; bench = after })
-          c.if-not-to_controller.false c.requires c.feed_line-answer.ensures))
+    ∙ record_fed a.count a.answers.now b a.to_controller a.line.now rest (record { says = c.feed_line-answer.result; bench = after })
+    c.if-not-to_controller.false c.requires c.feed_line-answer.ensures))

@@ -2,22 +2,13 @@
 -- each turn. While records are left the reader gives one, so that its other two answers never come.
 -- Assumes nothing.
 use mathlib.Core.Path.{◌≡◌, refl, sym, ap, ◌∙◌}
-use mathlib.Core.List.{List}
 use Prim.Native.Nat.{ℕ, ◌+◌, ◌-◌}
 use native.Mathlib.Omega.{arith}
-use lib.ListN.{length, take, drop}
-use Rattle.refusal.specs.Number.{number_of}
-use Rattle.recording.specs.Recording.{over, refused, said}
+use lib.ListN.{take, drop}
+use Rattle.recording.specs.Recording.{said}
 use Rattle.recording.proofs.Along.{step_inside}
-use Rattle.feed.specs.Feed.{Bench}
 use Rattle.replay.specs.Inner.{Ends}
-use Rattle.replay.proofs.Laws.{bench_of, Left, left_all, left_record, left_next, left_none}
-use borrow.Author.Rules.{rules}
-use Rattle.std.proofs.Common.{◌∷◌, ◌*◌, ◌≤◌, ◌<◌, ◌/◌, ◌%◌, Bool, true, false, nat_eq, nat_lt, [], ◌++◌, slice_index_or, slice_set, bit_and, bit_or, Fits, w8, w32, w64, Bor, MutBor}
-use Rattle.laws.specs.Bytes.{pasted}
-use Rattle.recording.specs.Recording.{Entry}
-use Rattle.replay.specs.Replay.{fed, numbers, ending, replayed}
-use Rattle.replay.specs.Inner.{Ahead}
+use Rattle.replay.proofs.Laws.{bench_of, left_all, left_next, left_none}
 use Rattle.replay.proofs.replay_records.Goals as goal
 
 pub loop-left-init : goal.loop-left-init

@@ -3,13 +3,9 @@
 use mathlib.Core.Path.{◌≡◌, refl}
 use mathlib.Core.Bool.{Bool, true, false, not}
 use lib.Dec.{eqb}
-use borrow.Author.Tests.{not-true, not-false, eq-eqb, ne_eqb}
+use borrow.Author.Tests.{eq-eqb, ne_eqb}
 use Rattle.laws.proofs.Choice.{both_yes, both_no}
 use Rattle.replies.specs.Read.{is_reply_def}
-use borrow.Author.Rules.{rules}
-use Rattle.std.proofs.Common.{ℕ, ◌+◌, ◌-◌, ◌*◌, ◌<◌, ◌≤◌, length, ◌/◌, ◌%◌, nat_eq, nat_lt, List, [], ◌∷◌, ◌++◌, slice_index_or, slice_set, bit_and, bit_or, Fits, w8, w32, w64, Bor, MutBor}
-use Rattle.rules.specs.Plan.{above, largest}
-use Rattle.replies.specs.Read.{said, or_zero, reply_with_def, values_of, read_reply_def}
 use Rattle.replies.proofs.is_reply.Goals as goal
 
 -- `replies::is_reply` meets its contract: the length is tested first, then the op.

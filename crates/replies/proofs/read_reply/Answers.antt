@@ -2,14 +2,9 @@
 -- Assumes nothing.
 use mathlib.Core.Path.{◌≡◌, sym, ap, ◌∙◌}
 use mathlib.Core.Bool.{true}
-use borrow.Author.Tests.{not-true, not-false}
 use Rattle.laws.proofs.Choice.{pick_yes, pick_no}
 use Rattle.map.proofs.Ways.{read_bad, read_map}
 use Rattle.replies.specs.Read.{map_read, is_reply_def, read_reply_def}
-use borrow.Author.Rules.{rules}
-use Rattle.std.proofs.Common.{ℕ, ◌+◌, ◌-◌, ◌*◌, ◌<◌, ◌≤◌, length, ◌/◌, ◌%◌, Bool, false, nat_eq, nat_lt, List, [], ◌∷◌, ◌++◌, slice_index_or, slice_set, bit_and, bit_or, Fits, w8, w32, w64, Bor, MutBor}
-use Rattle.rules.specs.Plan.{above, largest}
-use Rattle.replies.specs.Read.{said, or_zero, reply_with_def, values_of}
 use Rattle.replies.proofs.read_reply.Goals as goal
 
 pub returns-then-not-reply : goal.returns-then-not-reply

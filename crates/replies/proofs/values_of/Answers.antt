@@ -2,10 +2,6 @@
 -- Assumes nothing.
 use Rattle.laws.proofs.Choice.{pick_yes, pick_no}
 use Rattle.replies.specs.Read.{values_of}
-use borrow.Author.Rules.{rules}
-use Rattle.std.proofs.Common.{◌≡◌, ℕ, ◌+◌, ◌-◌, ◌*◌, ◌<◌, ◌≤◌, length, ◌/◌, ◌%◌, Bool, true, false, nat_eq, nat_lt, List, [], ◌∷◌, ◌++◌, slice_index_or, slice_set, bit_and, bit_or, Fits, w8, w32, w64, Bor, MutBor}
-use Rattle.rules.specs.Plan.{above, largest}
-use Rattle.replies.specs.Read.{said, or_zero, reply_with_def, is_reply_def, read_reply_def}
 use Rattle.replies.proofs.values_of.Goals as goal
 
 pub returns-then-is_large : goal.returns-then-is_large

@@ -3,16 +3,12 @@
 use mathlib.Core.Path.{sym, ap, ◌∙◌}
 use mathlib.Core.List.{List}
 use Prim.Native.Nat.{ℕ}
-use borrow.Author.Tests.{not-true, not-false}
 use Rattle.fields.specs.declared.Key.{Key}
 use Rattle.fields.specs.Fields.{number_in_def}
 use Rattle.map.proofs.Ways.{read_bad, read_map}
 use Rattle.requests.specs.Request.{mapped, erase_with, request_of_def}
 use borrow.Author.Tests.{eq-eqb, ne_eqb}
 use Rattle.laws.proofs.Choice.{pick_yes, pick_no}
-use borrow.Author.Rules.{rules}
-use Rattle.std.proofs.Common.{◌≡◌, ◌+◌, ◌-◌, ◌*◌, ◌<◌, ◌≤◌, length, ◌/◌, ◌%◌, Bool, true, false, nat_eq, nat_lt, [], ◌∷◌, ◌++◌, slice_index_or, slice_set, bit_and, bit_or, Fits, w8, w32, w64, Bor, MutBor}
-use Rattle.requests.specs.Request.{image_read_def, command_of_def, upload_of_def, is_request_def, read_request_def}
 use Rattle.requests.proofs.erase_in.Goals as goal
 
 pub returns-then-not-whole : goal.returns-then-not-whole

@@ -3,8 +3,6 @@
 use borrow.Author.Tests.{eq-eqb, ne_eqb}
 use Rattle.laws.proofs.Choice.{pick_yes, pick_no, both_yes, both_no}
 use Rattle.requests.specs.Request.{image_read_def}
-use Rattle.std.proofs.Common.{rules, ◌≡◌, ℕ, ◌+◌, ◌-◌, ◌*◌, ◌<◌, ◌≤◌, length, ◌/◌, ◌%◌, Bool, true, false, nat_eq, nat_lt, List, [], ◌∷◌, ◌++◌, slice_index_or, slice_set, bit_and, bit_or, Fits, w8, w32, w64, Bor, MutBor}
-use Rattle.requests.specs.Request.{command_of_def, upload_of_def, request_of_def, is_request_def, read_request_def}
 use Rattle.requests.proofs.image_read.Goals as goal
 
 pub returns-then-h-ne0 : goal.returns-then-h-ne0

@@ -1,11 +1,8 @@
 -- `requests::request_of` meets its contract: each command has its own reading.
 -- Assumes nothing.
-use mathlib.Core.Path.{sym, ap, ◌∙◌}
+use mathlib.Core.Path.{sym, ap}
 use Rattle.requests.specs.declared.Command.{Command}
 use Rattle.requests.specs.Request.{request_of_def}
-use borrow.Author.Rules.{rules}
-use Rattle.std.proofs.Common.{◌≡◌, ℕ, ◌+◌, ◌-◌, ◌*◌, ◌<◌, ◌≤◌, length, ◌/◌, ◌%◌, Bool, true, false, nat_eq, nat_lt, List, [], ◌∷◌, ◌++◌, slice_index_or, slice_set, bit_and, bit_or, Fits, w8, w32, w64, Bor, MutBor}
-use Rattle.requests.specs.Request.{image_read_def, command_of_def, upload_of_def, is_request_def, read_request_def}
 use Rattle.requests.proofs.request_of.Goals as goal
 
 pub returns-in-Unknown : goal.returns-in-Unknown

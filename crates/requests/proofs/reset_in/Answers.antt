@@ -3,13 +3,9 @@
 use mathlib.Core.Path.{sym, ap}
 use mathlib.Core.List.{List}
 use Prim.Native.Nat.{ℕ}
-use borrow.Author.Tests.{not-true, not-false}
 use Rattle.requests.specs.declared.Request.{Request}
 use Rattle.map.proofs.Ways.{read_bad, read_map}
 use Rattle.requests.specs.Request.{mapped, request_of_def}
-use borrow.Author.Rules.{rules}
-use Rattle.std.proofs.Common.{◌≡◌, ◌+◌, ◌-◌, ◌*◌, ◌<◌, ◌≤◌, length, ◌/◌, ◌%◌, Bool, true, false, nat_eq, nat_lt, [], ◌∷◌, ◌++◌, slice_index_or, slice_set, bit_and, bit_or, Fits, w8, w32, w64, Bor, MutBor}
-use Rattle.requests.specs.Request.{image_read_def, command_of_def, upload_of_def, is_request_def, read_request_def}
 use Rattle.requests.proofs.reset_in.Goals as goal
 
 pub returns-then-not-whole : goal.returns-then-not-whole

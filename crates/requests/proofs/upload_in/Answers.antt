@@ -1,12 +1,8 @@
 -- `requests::upload_in` meets its contract: the map is read, and then its keys.
 -- Assumes nothing.
 use mathlib.Core.Path.{sym, ap, ◌∙◌}
-use borrow.Author.Tests.{not-true, not-false}
 use Rattle.map.proofs.Ways.{read_bad, read_map}
 use Rattle.requests.specs.Request.{mapped, upload_of_def, request_of_def}
-use borrow.Author.Rules.{rules}
-use Rattle.std.proofs.Common.{◌≡◌, ℕ, ◌+◌, ◌-◌, ◌*◌, ◌<◌, ◌≤◌, length, ◌/◌, ◌%◌, Bool, true, false, nat_eq, nat_lt, List, [], ◌∷◌, ◌++◌, slice_index_or, slice_set, bit_and, bit_or, Fits, w8, w32, w64, Bor, MutBor}
-use Rattle.requests.specs.Request.{image_read_def, command_of_def, is_request_def, read_request_def}
 use Rattle.requests.proofs.upload_in.Goals as goal
 
 pub returns-then-not-whole : goal.returns-then-not-whole

@@ -6,9 +6,6 @@ use Rattle.laws.specs.declared.Run.{Run}
 use Rattle.fields.specs.declared.Key.{Key}
 use Rattle.fields.specs.Fields.{run_in_def}
 use Rattle.requests.specs.Request.{upload_with}
-use borrow.Author.Rules.{rules}
-use Rattle.std.proofs.Common.{◌≡◌, ℕ, ◌+◌, ◌-◌, ◌*◌, ◌<◌, ◌≤◌, length, ◌/◌, ◌%◌, Bool, true, false, nat_eq, nat_lt, List, [], ◌∷◌, ◌++◌, slice_index_or, slice_set, bit_and, bit_or, Fits, w8, w32, w64, Bor, MutBor}
-use Rattle.requests.specs.Request.{image_read_def, command_of_def, upload_of_def, request_of_def, is_request_def, read_request_def}
 use Rattle.requests.proofs.upload_of.Goals as goal
 
 pub returns-in_default : goal.returns-in_default

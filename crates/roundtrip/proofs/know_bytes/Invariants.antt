@@ -1,12 +1,7 @@
 -- `roundtrip::know_bytes` meets its contract: each byte that was read is below 256, and past the end a list gives 0.
 -- Assumes nothing.
-use mathlib.Core.Path.{◌≡◌, refl, sym, ap, subst, ◌∙◌}
-use Prim.Native.Nat.{ℕ, ◌+◌, ◌-◌, ◌≤◌, ◌<◌}
-use native.Mathlib.Omega.{arith}
-use native.Mathlib.Decide.{dec_le}
-use mathlib.Core.List.{List}
-use lib.ListN.{length, get_or, get_or-eq_default}
-use borrow.Author.Rules.{rules}
+use Prim.Native.Nat.{ℕ, ◌-◌, ◌≤◌, ◌<◌}
+use lib.ListN.{length, get_or}
 use Rattle.roundtrip.proofs.know_bytes.Given as goal
 
 abbrev pub invariant-loop-i : goal.invariant-loop-i

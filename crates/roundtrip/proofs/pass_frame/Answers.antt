@@ -1,19 +1,12 @@
 -- `roundtrip::pass_frame` meets its contract: the sender refuses no frame that is asked for, and what stands at the line buffer's start is the frame.
 -- Assumes nothing.
-use mathlib.Core.Path.{◌≡◌, refl, sym, ap, ◌∙◌}
+use mathlib.Core.Path.{sym, ap, ◌∙◌}
 use mathlib.Core.Bool.{true≢false}
 use mathlib.Core.List.{List}
 use Prim.Native.Nat.{ℕ}
-use lib.ListN.{length}
 use lib.Seq.{length-take-le}
 use Rattle.reader.specs.Reader.{take_line_def}
 use Rattle.roundtrip.proofs.Sent.{was_written, not_written}
-use borrow.Author.Rules.{rules}
-use Rattle.std.proofs.Common.{true, ◌<◌, ◌+◌, ◌-◌, ◌*◌, ◌≤◌, ◌/◌, ◌%◌, Bool, false, nat_eq, nat_lt, [], ◌∷◌, ◌++◌, slice_index_or, slice_set, bit_and, bit_or, Fits, w8, w32, w64, Bor, MutBor}
-use Rattle.laws.specs.Bytes.{Bytes, pasted}
-use Rattle.reader.specs.Reader.{outcome}
-use Rattle.sender.specs.Sender.{frame_count_def, frame_of, sendable}
-use Rattle.roundtrip.specs.RoundTrip.{passed, line_after_def, Passed}
 use Rattle.roundtrip.proofs.pass_frame.Goals as goal
 
 pub returns-in_default-clause-packet_after : goal.returns-in_default-clause-packet_after

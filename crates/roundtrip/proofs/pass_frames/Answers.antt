@@ -2,25 +2,17 @@
 -- that is what the call leaves.
 -- Assumes nothing.
 use mathlib.Core.Path.{◌≡◌, refl, sym, ap, subst, ◌∙◌}
-use mathlib.Core.Bool.{true, true≢false}
+use mathlib.Core.Bool.{true}
 use mathlib.Core.List.{List}
-use Prim.Native.Nat.{ℕ, ◌+◌, ◌-◌, ◌≤◌, ◌<◌}
+use Prim.Native.Nat.{ℕ, ◌<◌}
 use native.Mathlib.Omega.{arith}
 use lib.ListN.{length}
 use lib.Seq.{length-take-le}
-use Rattle.laws.proofs.Lists.{pasted_length}
-use Rattle.refusal.specs.declared.Refusal.{Refusal}
-use Rattle.reader.specs.declared.Taken.{Taken}
-use Rattle.reader.specs.Reader.{Outcome, outcome, take_line_def}
+use Rattle.reader.specs.Reader.{outcome, take_line_def}
 use Rattle.sender.specs.Sender.{frame_count_def, sendable}
 use Rattle.sender.proofs.Count.{count_some}
-use Rattle.roundtrip.proofs.Sent.{was_written, not_written, sendable_room, frame_fits}
-use Rattle.roundtrip.proofs.Passing.{Gone, gone_none, gone_next, gone_all, unpassed_is, unlined_is}
-use borrow.Author.Rules.{rules}
-use Rattle.std.proofs.Common.{◌*◌, ◌/◌, ◌%◌, Bool, false, nat_eq, nat_lt, [], ◌∷◌, ◌++◌, slice_index_or, slice_set, bit_and, bit_or, Fits, w8, w32, w64, Bor, MutBor}
-use Rattle.laws.specs.Bytes.{Bytes, pasted}
-use Rattle.sender.specs.Sender.{frame_of}
-use Rattle.roundtrip.specs.RoundTrip.{passed, line_after_def, Passed}
+use Rattle.roundtrip.proofs.Sent.{was_written, not_written}
+use Rattle.roundtrip.proofs.Passing.{gone_none, gone_next, gone_all, unpassed_is, unlined_is}
 use Rattle.roundtrip.proofs.pass_frames.Goals as goal
 
 pub returns-in_default-clause-packet_after : goal.returns-in_default-clause-packet_after

@@ -2,12 +2,6 @@
 -- Assumes nothing.
 use mathlib.Core.Path.{◌∙◌}
 use Rattle.roundtrip.proofs.Passing.{passed_back}
-use borrow.Author.Rules.{rules}
-use Rattle.std.proofs.Common.{◌≡◌, true, ◌<◌, length, ℕ, ◌+◌, ◌-◌, ◌*◌, ◌≤◌, ◌/◌, ◌%◌, Bool, false, nat_eq, nat_lt, List, [], ◌∷◌, ◌++◌, slice_index_or, slice_set, bit_and, bit_or, Fits, w8, w32, w64, Bor, MutBor}
-use Rattle.laws.specs.Bytes.{Bytes, pasted}
-use Rattle.reader.specs.Reader.{outcome, take_line_def}
-use Rattle.sender.specs.Sender.{frame_count_def, frame_of, sendable}
-use Rattle.roundtrip.specs.RoundTrip.{passed, line_after_def, Passed}
 use Rattle.roundtrip.proofs.send_and_take.Goals as goal
 
 pub returns : goal.returns

@@ -2,19 +2,12 @@
 -- Assumes nothing.
 use mathlib.Core.Path.{sym, ap, ◌∙◌}
 use Prim.Native.Nat.{◌+◌, ◌≤◌}
-use native.Mathlib.Omega.{arith}
 use lib.ListN.{length}
 use borrow.Author.Tests.{not-true, not-false}
 use Rattle.laws.specs.Bytes.{same}
 use Rattle.session.specs.Session.{state_of}
 use Rattle.rules.proofs.Laws.{tag_closed, tag_untagged, tag_absent, tag_compared, within_at, part_cut}
-use borrow.Author.Rules.{rules}
 use Rattle.rules.proofs.has_same_tag.Goals.{In-At}
-use Rattle.std.proofs.Common.{◌≡◌, List, true, not, ℕ, ◌-◌, ltb, eqb, ◌*◌, ◌<◌, ◌/◌, ◌%◌, Bool, false, [], ◌∷◌, ◌++◌, slice_index_or, slice_set, bit_and, bit_or, Fits, w8, w32, w64, Bor, MutBor}
-use Rattle.laws.specs.Choice.{both}
-use Rattle.laws.specs.Parts.{Within}
-use Rattle.session.specs.Session.{session_ok}
-use Rattle.rules.specs.Plan.{above, mis_sized_def, same_tag, plan_later_def, plan_sized_def, plan_length_def, plan_first_def, plan_of}
 use Rattle.rules.proofs.has_same_tag.Goals as goal
 
 -- `rules::has_same_tag` meets its contract: no open session, no tag of it, no tag of the request, and then the two tags compared.

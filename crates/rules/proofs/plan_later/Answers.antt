@@ -8,12 +8,6 @@ use borrow.Author.Tests.{eq-eqb, ne_eqb, not-true, not-false}
 use Rattle.laws.proofs.Choice.{pick_yes, pick_no}
 use Rattle.rules.specs.Plan.{plan_later_def}
 use Rattle.rules.proofs.Laws.{beyond_place}
-use Rattle.std.proofs.Common.{rules, List, not, ℕ, ◌-◌, ◌≤◌, eqb, ◌*◌, ◌<◌, length, ◌/◌, ◌%◌, Bool, [], ◌∷◌, ◌++◌, slice_index_or, slice_set, bit_and, bit_or, Fits, w8, w32, w64, Bor, MutBor}
-use Rattle.laws.specs.Choice.{both}
-use Rattle.laws.specs.Bytes.{same}
-use Rattle.laws.specs.Parts.{Within}
-use Rattle.session.specs.Session.{session_ok, state_of}
-use Rattle.rules.specs.Plan.{above, mis_sized_def, same_tag, plan_sized_def, plan_length_def, plan_first_def, plan_of}
 use Rattle.rules.proofs.plan_later.Goals as goal
 
 pub returns-then-not-session : goal.returns-then-not-session

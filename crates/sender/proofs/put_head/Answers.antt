@@ -7,12 +7,6 @@ use lib.ListN.{length}
 use Rattle.laws.specs.Bytes.{pasted}
 use Rattle.laws.proofs.Lists.{pasted_none}
 use Rattle.sender.proofs.Laws.{head_first, head_later, be16_length}
-use borrow.Author.Rules.{rules}
-use Rattle.std.proofs.Common.{◌≡◌, ◌-◌, ◌≤◌, ◌<◌, ◌*◌, ◌/◌, ◌%◌, Bool, true, false, nat_eq, nat_lt, [], ◌∷◌, ◌++◌, slice_index_or, slice_set, bit_and, bit_or, Fits, w8, w32, w64, Bor, MutBor}
-use Rattle.strict_base64.specs.Base64.{encode}
-use Rattle.frame.specs.Line.{longest, longest_text, raw_most, frame}
-use Rattle.sender.specs.Sender.{frame_count_def, start_of, piece_of, marker_of, frame_of, outcome, send_frame_def}
-use Rattle.sender.specs.Inner.{head_of, to_of, from_of, middle_of, tail_of}
 use Rattle.sender.proofs.put_head.Goals as goal
 
 pub returns-then-k-eq0 : goal.returns-then-k-eq0

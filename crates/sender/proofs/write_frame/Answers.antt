@@ -3,19 +3,12 @@
 use mathlib.Core.Path.{◌≡◌, sym, ap, ◌∙◌}
 use mathlib.Core.List.{List}
 use Prim.Native.Nat.{ℕ}
-use native.Mathlib.Omega.{arith}
-use lib.ListN.{length, take, drop, replicate, length-take}
+use lib.ListN.{length, take, drop, replicate}
 use lib.Seq.{take_at}
 use Rattle.laws.specs.Bytes.{pasted}
 use Rattle.laws.proofs.Lists.{pasted_start}
 use Rattle.frame.specs.Line.{raw_most, frame}
 use Rattle.sender.specs.Sender.{piece_of, marker_of, frame_of}
-use borrow.Author.Rules.{rules}
-use Rattle.std.proofs.Common.{◌+◌, ◌-◌, ◌≤◌, ◌<◌, ◌*◌, ◌/◌, ◌%◌, Bool, true, false, nat_eq, nat_lt, [], ◌∷◌, ◌++◌, slice_index_or, slice_set, bit_and, bit_or, Fits, w8, w32, w64, Bor, MutBor}
-use Rattle.strict_base64.specs.Base64.{encode}
-use Rattle.frame.specs.Line.{longest, longest_text}
-use Rattle.sender.specs.Sender.{frame_count_def, start_of, outcome, send_frame_def}
-use Rattle.sender.specs.Inner.{head_of, to_of, from_of, middle_of, tail_of}
 use Rattle.sender.proofs.write_frame.Goals as goal
 
 pub returns : goal.returns

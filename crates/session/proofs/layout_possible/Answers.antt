@@ -2,15 +2,11 @@
 -- Assumes nothing.
 use Prim.Native.Nat.{◌+◌}
 use native.Mathlib.Omega.{arith}
-use borrow.Author.Tests.{leb-true, not-true, not-false}
+use borrow.Author.Tests.{leb-true}
 use mathlib.Core.Path.{sym, ◌∙◌}
 use Rattle.laws.proofs.Choice.{both_yes, both_no, both_last_no}
 use Rattle.session.specs.Session.{layout_ok}
 use Rattle.session.proofs.Laws.{region_bounds}
-use borrow.Author.Rules.{rules}
-use Rattle.std.proofs.Common.{◌≡◌, ◌^◌, ◌<◌, ℕ, ◌-◌, ◌*◌, ◌≤◌, length, ◌/◌, ◌%◌, Bool, true, false, nat_eq, nat_lt, List, [], ◌∷◌, ◌++◌, slice_index_or, slice_set, bit_and, bit_or, Fits, w8, w32, w64, Bor, MutBor}
-use Rattle.laws.specs.Choice.{both}
-use Rattle.session.specs.Session.{lies_in_def, region_ok, overlapping, session_ok, closed, said, configured}
 use Rattle.session.proofs.layout_possible.Goals as goal
 
 pub returns-then-not-region : goal.returns-then-not-region

@@ -8,10 +8,6 @@ use lib.Dec.{eqb}
 use borrow.Author.Tests.{lt-ltb, le-ltb, eqb-true, eqb-false}
 use Rattle.session.specs.declared.Slot.{Slot}
 use Rattle.session.specs.Session.{overlapping}
-use borrow.Author.Rules.{rules}
-use Rattle.std.proofs.Common.{◌^◌, ℕ, ◌-◌, ◌*◌, length, ◌/◌, ◌%◌, nat_eq, nat_lt, List, [], ◌∷◌, ◌++◌, slice_index_or, slice_set, bit_and, bit_or, Fits, w8, w32, w64, Bor, MutBor}
-use Rattle.laws.specs.Choice.{both}
-use Rattle.session.specs.Session.{lies_in_def, region_ok, layout_ok, session_ok, closed, said, configured}
 use Rattle.session.proofs.overlap.Goals as goal
 
 -- `session::overlap` meets its contract: no byte is in both where one region ends before the other, or is empty.

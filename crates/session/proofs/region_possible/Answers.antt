@@ -2,10 +2,6 @@
 -- Assumes nothing.
 use mathlib.Core.Path.{sym, ◌∙◌}
 use Rattle.session.proofs.Laws.{region_small, region_large, region_rest}
-use borrow.Author.Rules.{rules}
-use Rattle.std.proofs.Common.{◌≡◌, ◌+◌, ◌^◌, ◌<◌, ℕ, ◌-◌, ◌*◌, ◌≤◌, length, ◌/◌, ◌%◌, Bool, true, false, nat_eq, nat_lt, List, [], ◌∷◌, ◌++◌, slice_index_or, slice_set, bit_and, bit_or, Fits, w8, w32, w64, Bor, MutBor}
-use Rattle.laws.specs.Choice.{both}
-use Rattle.session.specs.Session.{lies_in_def, region_ok, overlapping, layout_ok, session_ok, closed, said, configured}
 use Rattle.session.proofs.region_possible.Goals as goal
 
 pub returns-then-size-lt1 : goal.returns-then-size-lt1

@@ -4,9 +4,6 @@ use borrow.Author.Tests.{lt-leb, le-leb, not-true, not-false}
 use Rattle.session.proofs.Laws.{session_last}
 use Rattle.laws.proofs.Choice.{pick_yes, pick_no, both_yes, both_no}
 use Rattle.session.specs.Session.{session_ok}
-use Rattle.std.proofs.Common.{rules, ◌≡◌, ◌+◌, ◌^◌, ◌<◌, ℕ, ◌-◌, ◌*◌, ◌≤◌, length, ◌/◌, ◌%◌, Bool, true, false, nat_eq, nat_lt, List, [], ◌∷◌, ◌++◌, slice_index_or, slice_set, bit_and, bit_or, Fits, w8, w32, w64, Bor, MutBor}
-use Rattle.laws.specs.Choice.{both}
-use Rattle.session.specs.Session.{lies_in_def, region_ok, overlapping, layout_ok, closed, said, configured}
 use Rattle.session.proofs.session_possible.Goals as goal
 
 pub returns-then-not-session : goal.returns-then-not-session

@@ -4,9 +4,6 @@ use native.Mathlib.Omega.{arith}
 use Rattle.cbor.proofs.Laws.{head_long}
 use Rattle.host.proofs.Writing.{head_most}
 use Rattle.sizes.proofs.Size.{over_untagged, over_tagged}
-use borrow.Author.Rules.{rules}
-use Rattle.std.proofs.Common.{◌≡◌, ◌-◌, ℕ, ◌+◌, ◌*◌, ◌<◌, ◌≤◌, length, ◌/◌, ◌%◌, Bool, true, false, nat_eq, nat_lt, List, [], ◌∷◌, ◌++◌, slice_index_or, slice_set, bit_and, bit_or, Fits, w8, w32, w64, Bor, MutBor}
-use Rattle.sizes.specs.Size.{first_over_def, most_in_def, most_past_def, most_first_def, most_data_def}
 use Rattle.sizes.proofs.first_over.Goals as goal
 
 pub overflow_add-over : goal.overflow_add-over

@@ -8,9 +8,6 @@ use Rattle.laws.proofs.Choice.{pick_yes, pick_no}
 use Rattle.cbor.proofs.Laws.{head_long}
 use Rattle.sizes.specs.Size.{later_over, most_past_def, most_data_def}
 use Rattle.host.proofs.Writing.{head_most}
-use borrow.Author.Rules.{rules}
-use Rattle.std.proofs.Common.{◌-◌, ◌*◌, ◌<◌, ◌≤◌, length, ◌/◌, ◌%◌, Bool, true, false, nat_eq, nat_lt, List, [], ◌∷◌, ◌++◌, slice_index_or, slice_set, bit_and, bit_or, Fits, w8, w32, w64, Bor, MutBor}
-use Rattle.sizes.specs.Size.{first_over_def, most_in_def, most_first_def}
 use Rattle.sizes.proofs.most_data.Goals as goal
 
 pub returns-then-off-gt4294967295 : goal.returns-then-off-gt4294967295

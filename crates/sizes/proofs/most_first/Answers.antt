@@ -6,9 +6,6 @@ use native.Mathlib.Omega.{arith}
 use borrow.Author.Tests.{eq-eqb, ne_eqb, lt-ltb, le-ltb}
 use Rattle.sizes.specs.Size.{first_over_def, most_past_def}
 use Rattle.sizes.proofs.Size.{first_empty, first_above, first_odd, first_most}
-use borrow.Author.Rules.{rules}
-use Rattle.std.proofs.Common.{◌-◌, ◌+◌, ◌*◌, ◌<◌, ◌≤◌, length, ◌/◌, ◌%◌, Bool, true, false, nat_eq, nat_lt, List, [], ◌∷◌, ◌++◌, slice_index_or, slice_set, bit_and, bit_or, Fits, w8, w32, w64, Bor, MutBor}
-use Rattle.sizes.specs.Size.{most_in_def, most_first_def, most_data_def}
 use Rattle.sizes.proofs.most_first.Goals as goal
 
 pub returns-then-size-eq0 : goal.returns-then-size-eq0

@@ -3,9 +3,6 @@
 use Prim.Native.Nat.{◌-◌}
 use native.Mathlib.Omega.{arith}
 use Rattle.sizes.proofs.Size.{most_tiny, most_small, most_large}
-use borrow.Author.Rules.{rules}
-use Rattle.std.proofs.Common.{◌≡◌, ℕ, ◌+◌, ◌*◌, ◌<◌, ◌≤◌, length, ◌/◌, ◌%◌, Bool, true, false, nat_eq, nat_lt, List, [], ◌∷◌, ◌++◌, slice_index_or, slice_set, bit_and, bit_or, Fits, w8, w32, w64, Bor, MutBor}
-use Rattle.sizes.specs.Size.{first_over_def, most_in_def, most_past_def, most_first_def, most_data_def}
 use Rattle.sizes.proofs.most_in.Goals as goal
 
 pub returns-then-whole-over : goal.returns-then-whole-over

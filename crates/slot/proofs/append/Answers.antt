@@ -2,22 +2,14 @@
 -- Assumes nothing.
 use mathlib.Core.Path.{ap₂}
 use mathlib.Core.List.{List}
-use Prim.Native.Nat.{ℕ, ◌+◌}
+use Prim.Native.Nat.{ℕ}
 use native.Mathlib.Omega.{arith}
-use lib.ListN.{length, length-take, length-drop}
-use Rattle.laws.proofs.Lists.{copied_part}
+use lib.ListN.{length}
 use Rattle.session.specs.declared.Session.{Session}
 use Rattle.session.specs.Session.{state_of}
 use Rattle.slot.specs.Act.{done}
 use Rattle.slot.proofs.Memory.{Room, append_room}
-use borrow.Author.Rules.{rules}
 use Rattle.slot.proofs.append.Goals.{Start}
-use Rattle.std.proofs.Common.{◌≡◌, true, false, ◌^◌, ◌≤◌, ◌<◌, ◌-◌, ◌*◌, ◌/◌, ◌%◌, Bool, nat_eq, nat_lt, [], ◌∷◌, ◌++◌, slice_index_or, slice_set, bit_and, bit_or, Fits, w8, w32, w64, Bor, MutBor}
-use Rattle.laws.specs.Parts.{is_there_def, Within}
-use Rattle.session.specs.Session.{region_ok, session_ok, State}
-use Rattle.rules.specs.Plan.{mis_sized_def, plan_of}
-use Rattle.slot.specs.Act.{Act, blank, grown, tag_kept, act_of}
-use Rattle.slot.specs.History.{Fit}
 use Rattle.slot.proofs.append.Goals as goal
 
 -- `slot::append` meets its contract: the data fits after the session's place, and the copy fills the start of the part that begins there.

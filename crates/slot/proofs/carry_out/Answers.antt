@@ -13,13 +13,7 @@ use Rattle.slot.specs.Act.{Act, data_in, tag_kept, done, act_of}
 use Rattle.slot.specs.History.{Fit}
 use Rattle.rules.proofs.Laws.{part_cut}
 use Rattle.slot.proofs.Fit.{fit_at_place, planned_fit, started_tag}
-use borrow.Author.Rules.{rules}
 use Rattle.slot.proofs.carry_out.Goals.{Start as Entry}
-use Rattle.std.proofs.Common.{true, false, ◌+◌, ◌^◌, ◌≤◌, ◌<◌, ◌-◌, ◌*◌, ◌/◌, ◌%◌, nat_eq, nat_lt, [], ◌∷◌, ◌++◌, slice_index_or, slice_set, bit_and, bit_or, Fits, w8, w32, w64, Bor, MutBor}
-use Rattle.laws.specs.Parts.{is_there_def, Within}
-use Rattle.session.specs.Session.{region_ok, session_ok}
-use Rattle.rules.specs.Plan.{mis_sized_def, plan_of}
-use Rattle.slot.specs.Act.{blank, grown}
 use Rattle.slot.proofs.carry_out.Goals as goal
 
 -- `slot::carry_out` meets its contract: a refusal and an offset told leave all as it was, and what the plan came to is fit to be done.

@@ -5,14 +5,7 @@ use Prim.Native.Nat.{◌≤◌}
 use lib.ListN.{length}
 use Rattle.session.proofs.Laws.{Region, region_bounds}
 use Rattle.slot.proofs.Memory.{cleared}
-use borrow.Author.Rules.{rules}
 use Rattle.slot.proofs.clear.Goals.{Start}
-use Rattle.std.proofs.Common.{◌≡◌, List, true, false, ℕ, ◌+◌, ◌^◌, ◌<◌, ◌-◌, ◌*◌, ◌/◌, ◌%◌, Bool, nat_eq, nat_lt, [], ◌∷◌, ◌++◌, slice_index_or, slice_set, bit_and, bit_or, Fits, w8, w32, w64, Bor, MutBor}
-use Rattle.laws.specs.Parts.{is_there_def, Within}
-use Rattle.session.specs.Session.{region_ok, session_ok, State, state_of}
-use Rattle.rules.specs.Plan.{mis_sized_def, plan_of}
-use Rattle.slot.specs.Act.{Act, blank, grown, done, tag_kept, act_of}
-use Rattle.slot.specs.History.{Fit}
 use Rattle.slot.proofs.clear.Goals as goal
 
 -- `slot::clear` meets its contract: the part from the slot's start to its end is filled.

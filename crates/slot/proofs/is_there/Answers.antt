@@ -2,13 +2,6 @@
 -- Assumes nothing.
 use mathlib.Core.Path.{sym, ap}
 use Rattle.laws.specs.Parts.{is_there_def}
-use borrow.Author.Rules.{rules}
-use Rattle.std.proofs.Common.{◌≡◌, List, true, false, ℕ, ◌+◌, ◌^◌, ◌≤◌, ◌<◌, length, ◌-◌, ◌*◌, ◌/◌, ◌%◌, Bool, nat_eq, nat_lt, [], ◌∷◌, ◌++◌, slice_index_or, slice_set, bit_and, bit_or, Fits, w8, w32, w64, Bor, MutBor}
-use Rattle.laws.specs.Parts.{Within}
-use Rattle.session.specs.Session.{region_ok, session_ok, State, state_of}
-use Rattle.rules.specs.Plan.{mis_sized_def, plan_of}
-use Rattle.slot.specs.Act.{Act, blank, grown, done, tag_kept, act_of}
-use Rattle.slot.specs.History.{Fit}
 use Rattle.slot.proofs.is_there.Goals as goal
 
 pub returns-in_default : goal.returns-in_default

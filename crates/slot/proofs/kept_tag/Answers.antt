@@ -1,20 +1,11 @@
 -- `slot::kept_tag` meets its contract: without a tag zeros are given, and a tag fills all that is given.
 -- Assumes nothing.
-use mathlib.Core.Path.{refl, sym, ◌∙◌}
+use mathlib.Core.Path.{sym, ◌∙◌}
 use Prim.Native.Nat.{◌+◌, ◌≤◌}
-use native.Mathlib.Omega.{arith}
 use lib.ListN.{length}
-use Rattle.session.specs.Session.{no_tag}
 use Rattle.rules.proofs.Laws.{part_cut, tag_size, within_at}
 use Rattle.slot.proofs.Laws.{part_size, kept_none, kept_tag_lem}
-use borrow.Author.Rules.{rules}
 use Rattle.slot.proofs.kept_tag.Goals.{In-At}
-use Rattle.std.proofs.Common.{◌≡◌, List, true, false, ℕ, ◌^◌, ◌<◌, ◌-◌, ◌*◌, ◌/◌, ◌%◌, Bool, nat_eq, nat_lt, [], ◌∷◌, ◌++◌, slice_index_or, slice_set, bit_and, bit_or, Fits, w8, w32, w64, Bor, MutBor}
-use Rattle.laws.specs.Parts.{is_there_def, Within}
-use Rattle.session.specs.Session.{region_ok, session_ok, State, state_of}
-use Rattle.rules.specs.Plan.{mis_sized_def, plan_of}
-use Rattle.slot.specs.Act.{Act, blank, grown, done, tag_kept, act_of}
-use Rattle.slot.specs.History.{Fit}
 use Rattle.slot.proofs.kept_tag.Goals as goal
 
 -- `slot::kept_tag` meets its contract: without a tag zeros are given, and a tag fills all that is given.

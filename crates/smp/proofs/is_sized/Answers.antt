@@ -3,15 +3,6 @@
 use borrow.Author.Tests.{eq-eqb, ne_eqb, lt-leb, le-leb}
 use Rattle.laws.proofs.Choice.{both_yes, both_no}
 use Rattle.smp.specs.Packet.{sized}
-use borrow.Author.Rules.{rules}
-use Rattle.std.proofs.Common.{◌≡◌, not, [], ◌∷◌, ◌++◌, ◌+◌, ◌-◌, ◌≤◌, ◌<◌, ltb, length, drop, ℕ, ◌*◌, ◌/◌, ◌%◌, Bool, true, false, nat_eq, List, slice_index_or, slice_set, bit_and, bit_or, Fits, w8, w32, w64, Bor, MutBor}
-use Rattle.laws.specs.Bytes.{pasted, of_be16}
-use Rattle.cbor.specs.Inner.{Put}
-use Rattle.cbor.specs.Write.{unsigned, text_of}
-use Rattle.reason.specs.Rc.{rc_of_def}
-use Rattle.smp.specs.Packet.{header_in_def, header_bytes}
-use Rattle.smp.specs.Reply.{rc_map, reply_map, reply_header_def, reply_packet, Sayable}
-use Rattle.smp.specs.Inner.{Written}
 use Rattle.smp.proofs.is_sized.Goals as goal
 
 pub returns-then-n-lt8 : goal.returns-then-n-lt8

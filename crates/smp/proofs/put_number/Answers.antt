@@ -1,17 +1,7 @@
 -- `smp::put_number` meets its contract: the key and then the number.
 -- Assumes nothing.
-use native.Mathlib.Omega.{arith}
-use lib.Dec.{lit<}
 use Rattle.cbor.specs.Write.{unsigned, text_of}
-use Rattle.smp.proofs.Writing.{put_then, room_first, room_rest}
-use borrow.Author.Rules.{rules}
-use Rattle.std.proofs.Common.{◌≡◌, not, [], ◌∷◌, ◌++◌, ◌+◌, ◌-◌, ◌≤◌, ◌<◌, ltb, length, drop, ℕ, ◌*◌, ◌/◌, ◌%◌, Bool, true, false, nat_eq, List, slice_index_or, slice_set, bit_and, bit_or, Fits, w8, w32, w64, Bor, MutBor}
-use Rattle.laws.specs.Bytes.{pasted, of_be16}
-use Rattle.cbor.specs.Inner.{Put}
-use Rattle.reason.specs.Rc.{rc_of_def}
-use Rattle.smp.specs.Packet.{header_in_def, sized, header_bytes}
-use Rattle.smp.specs.Reply.{rc_map, reply_map, reply_header_def, reply_packet, Sayable}
-use Rattle.smp.specs.Inner.{Written}
+use Rattle.smp.proofs.Writing.{put_then, room_first}
 use Rattle.smp.proofs.put_number.Goals as goal
 
 pub returns : goal.returns

@@ -8,14 +8,6 @@ use lib.Dec.{lit<}
 use Rattle.cbor.specs.Inner.{Put}
 use Rattle.smp.specs.Reply.{rc_map}
 use Rattle.smp.proofs.Writing.{rc_room, packet_put}
-use borrow.Author.Rules.{rules}
-use Rattle.std.proofs.Common.{not, [], ◌∷◌, ◌++◌, ◌+◌, ◌-◌, ◌≤◌, ◌<◌, ltb, length, drop, ◌*◌, ◌/◌, ◌%◌, Bool, true, false, nat_eq, slice_index_or, slice_set, bit_and, bit_or, Fits, w8, w32, w64, Bor, MutBor}
-use Rattle.laws.specs.Bytes.{pasted, of_be16}
-use Rattle.cbor.specs.Write.{unsigned, text_of}
-use Rattle.reason.specs.Rc.{rc_of_def}
-use Rattle.smp.specs.Packet.{header_in_def, sized, header_bytes}
-use Rattle.smp.specs.Reply.{reply_map, reply_header_def, reply_packet, Sayable}
-use Rattle.smp.specs.Inner.{Written}
 use Rattle.smp.proofs.put_too_long.Goals as goal
 
 -- what was written with the rc that the table gives

@@ -7,10 +7,6 @@ use native.Mathlib.Omega.{arith}
 use lib.Dec.{lit<}
 use lib.ListN.{length}
 use Rattle.transcript.proofs.Laws.{end_at_lem, end_none, ended_length}
-use borrow.Author.Rules.{rules}
-use Rattle.std.proofs.Common.{◌≡◌, ◌+◌, ◌*◌, ◌≤◌, ◌<◌, leb, ◌-◌, ◌/◌, ◌%◌, Bool, true, false, nat_eq, nat_lt, [], ◌∷◌, ◌++◌, slice_index_or, slice_set, bit_and, bit_or, Fits, w8, w32, w64, Bor, MutBor}
-use Rattle.cbor.specs.Inner.{Put}
-use Rattle.transcript.specs.Transcript.{rc_text, line_text, end_text, transcript, said, written}
 use Rattle.transcript.proofs.end_len.Goals as goal
 
 pub returns-then-session : goal.returns-then-session

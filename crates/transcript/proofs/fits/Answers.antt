@@ -1,17 +1,13 @@
 -- `transcript::fits` meets its contract: the room left and the lines left are as they were before the lines that were counted.
 -- Assumes nothing.
-use mathlib.Core.Path.{◌≡◌, sym, ap}
+use mathlib.Core.Path.{sym, ap}
 use mathlib.Core.List.{List}
-use Prim.Native.Nat.{ℕ, ◌+◌, ◌-◌, ◌≤◌}
+use Prim.Native.Nat.{ℕ}
 use native.Mathlib.Omega.{arith}
 use lib.ListN.{length}
 use borrow.Author.Tests.{lt-leb, le-leb}
-use Rattle.transcript.specs.Transcript.{lines_from, transcript}
-use Rattle.transcript.proofs.Laws.{lines_all, lines_none, lines_length, text_length_lem}
-use borrow.Author.Rules.{rules}
-use Rattle.std.proofs.Common.{◌*◌, ◌<◌, leb, ◌/◌, ◌%◌, Bool, true, false, nat_eq, nat_lt, [], ◌∷◌, ◌++◌, slice_index_or, slice_set, bit_and, bit_or, Fits, w8, w32, w64, Bor, MutBor}
-use Rattle.cbor.specs.Inner.{Put}
-use Rattle.transcript.specs.Transcript.{rc_text, line_text, end_text, said, written}
+use Rattle.transcript.specs.Transcript.{transcript}
+use Rattle.transcript.proofs.Laws.{lines_none, lines_length, text_length_lem}
 use Rattle.transcript.proofs.fits.Goals as goal
 
 pub returns-then-room-last : goal.returns-then-room-last

@@ -1,17 +1,12 @@
 -- `transcript::put_all` meets its contract: with the rest of the text at the place that is reached, the output is the one asked for.
 -- Assumes nothing.
-use mathlib.Core.Path.{◌≡◌, refl, sym, ap, ◌∙◌}
+use mathlib.Core.Path.{refl, sym, ap, ◌∙◌}
 use mathlib.Core.List.{List}
-use Prim.Native.Nat.{ℕ, ◌+◌, ◌-◌, ◌≤◌}
+use Prim.Native.Nat.{ℕ}
 use native.Mathlib.Omega.{arith}
 use lib.ListN.{length}
 use Rattle.laws.specs.Bytes.{pasted}
-use Rattle.transcript.specs.Transcript.{transcript}
-use Rattle.transcript.proofs.Laws.{rest_from, rest_all, rest_none, rest_length, rest_written}
-use borrow.Author.Rules.{rules}
-use Rattle.std.proofs.Common.{◌*◌, ◌<◌, leb, ◌/◌, ◌%◌, Bool, true, false, nat_eq, nat_lt, [], ◌∷◌, ◌++◌, slice_index_or, slice_set, bit_and, bit_or, Fits, w8, w32, w64, Bor, MutBor}
-use Rattle.cbor.specs.Inner.{Put}
-use Rattle.transcript.specs.Transcript.{rc_text, line_text, end_text, said, written}
+use Rattle.transcript.proofs.Laws.{rest_all, rest_none, rest_length, rest_written}
 use Rattle.transcript.proofs.put_all.Goals as goal
 
 pub loop-k-init : goal.loop-k-init

@@ -4,14 +4,9 @@ use mathlib.Core.Path.{refl}
 use mathlib.Core.List.{List, [], ◌∷◌, ◌++◌}
 use Prim.Native.Nat.{ℕ}
 use native.Mathlib.Omega.{arith}
-use lib.Dec.{lit<}
 use Rattle.smp.proofs.Writing.{put_then, room_first, room_rest}
 use Rattle.transcript.specs.Transcript.{wide, end_at}
 use Rattle.transcript.proofs.Laws.{end_at_lem, end_none}
-use borrow.Author.Rules.{rules}
-use Rattle.std.proofs.Common.{◌≡◌, ◌+◌, ◌*◌, ◌≤◌, ◌<◌, leb, length, ◌-◌, ◌/◌, ◌%◌, Bool, true, false, nat_eq, nat_lt, slice_index_or, slice_set, bit_and, bit_or, Fits, w8, w32, w64, Bor, MutBor}
-use Rattle.cbor.specs.Inner.{Put}
-use Rattle.transcript.specs.Transcript.{rc_text, line_text, end_text, transcript, said, written}
 use Rattle.transcript.proofs.put_end.Goals as goal
 
 pub put-requires : goal.put-requires

@@ -2,15 +2,9 @@
 -- Assumes nothing.
 use mathlib.Core.List.{List, [], ◌∷◌, ◌++◌}
 use Prim.Native.Nat.{ℕ}
-use native.Mathlib.Omega.{arith}
-use lib.Dec.{lit<}
-use Rattle.smp.proofs.Writing.{put_three, room_one, room_two, room_three}
+use Rattle.smp.proofs.Writing.{put_three}
 use Rattle.transcript.specs.Transcript.{wide, rc_text}
 use Rattle.transcript.proofs.Laws.{line_parts}
-use borrow.Author.Rules.{rules}
-use Rattle.std.proofs.Common.{◌≡◌, ◌+◌, ◌*◌, ◌≤◌, ◌<◌, leb, length, ◌-◌, ◌/◌, ◌%◌, Bool, true, false, nat_eq, nat_lt, slice_index_or, slice_set, bit_and, bit_or, Fits, w8, w32, w64, Bor, MutBor}
-use Rattle.cbor.specs.Inner.{Put}
-use Rattle.transcript.specs.Transcript.{line_text, end_text, transcript, said, written}
 use Rattle.transcript.proofs.put_line.Goals as goal
 
 pub returns : goal.returns

@@ -1,13 +1,8 @@
 -- `transcript::put_rc` meets its contract: the return code and 0A, or the two bytes of a line without one.
 -- Assumes nothing.
 use mathlib.Core.Path.{refl}
-use lib.Dec.{lit<}
 use borrow.Author.Tests.{eq-eqb, ne_eqb}
 use Rattle.transcript.proofs.Laws.{rc_none, rc_some}
-use borrow.Author.Rules.{rules}
-use Rattle.std.proofs.Common.{◌≡◌, ◌+◌, ◌*◌, ◌≤◌, ◌<◌, leb, length, ℕ, ◌-◌, ◌/◌, ◌%◌, Bool, true, false, nat_eq, nat_lt, List, [], ◌∷◌, ◌++◌, slice_index_or, slice_set, bit_and, bit_or, Fits, w8, w32, w64, Bor, MutBor}
-use Rattle.cbor.specs.Inner.{Put}
-use Rattle.transcript.specs.Transcript.{rc_text, line_text, end_text, transcript, said, written}
 use Rattle.transcript.proofs.put_rc.Goals as goal
 
 pub put-requires : goal.put-requires

@@ -8,10 +8,6 @@ use lib.Dec.{lit<}
 use lib.ListN.{length}
 use borrow.Author.Tests.{eq-eqb, ne_eqb}
 use Rattle.transcript.proofs.Laws.{rc_none, rc_some, ended_length}
-use borrow.Author.Rules.{rules}
-use Rattle.std.proofs.Common.{◌≡◌, ◌+◌, ◌*◌, ◌≤◌, ◌<◌, leb, ◌-◌, ◌/◌, ◌%◌, Bool, true, false, nat_eq, nat_lt, [], ◌∷◌, ◌++◌, slice_index_or, slice_set, bit_and, bit_or, Fits, w8, w32, w64, Bor, MutBor}
-use Rattle.cbor.specs.Inner.{Put}
-use Rattle.transcript.specs.Transcript.{rc_text, line_text, end_text, transcript, said, written}
 use Rattle.transcript.proofs.rc_len.Goals as goal
 
 pub returns-then-replied-eq0 : goal.returns-then-replied-eq0

@@ -3,12 +3,6 @@
 use borrow.Author.Tests.{eq-eqb, ne_eqb}
 use Rattle.laws.proofs.Choice.{both_yes, both_no}
 use Rattle.uploads.specs.Upload.{odd_length}
-use Rattle.std.proofs.Common.{rules, ◌≡◌, false, ◌++◌, ◌+◌, ◌≤◌, length, ℕ, ◌-◌, ◌*◌, ◌<◌, ◌/◌, ◌%◌, Bool, true, nat_eq, nat_lt, List, [], ◌∷◌, slice_index_or, slice_set, bit_and, bit_or, Fits, w8, w32, w64, Bor, MutBor}
-use Rattle.cbor.specs.Inner.{Put}
-use Rattle.cbor.specs.Write.{bytes_of, text_of}
-use Rattle.host.specs.Write.{request_packet, outcome, put}
-use Rattle.uploads.specs.Upload.{later_map, first_map, mis_sized_def, write_first_def, write_upload_def}
-use Rattle.uploads.specs.Inner.{first_pairs}
 use Rattle.uploads.proofs.is_mis_sized.Goals as goal
 
 pub returns-then-n-eq0 : goal.returns-then-n-eq0

@@ -9,12 +9,6 @@ use Rattle.cbor.specs.Write.{unsigned, bytes_of, text_of, map_of}
 use Rattle.fields.specs.Keys.{name_data, name_off}
 use Rattle.uploads.proofs.Maps.{later_parts}
 use Rattle.smp.proofs.Writing.{put_then, room_first, room_rest}
-use borrow.Author.Rules.{rules}
-use Rattle.std.proofs.Common.{◌≡◌, false, ◌-◌, ◌*◌, ◌<◌, ◌/◌, ◌%◌, Bool, true, nat_eq, nat_lt, [], ◌∷◌, slice_index_or, slice_set, bit_and, bit_or, Fits, w8, w32, w64, Bor, MutBor}
-use Rattle.cbor.specs.Inner.{Put}
-use Rattle.host.specs.Write.{request_packet, outcome, put}
-use Rattle.uploads.specs.Upload.{later_map, first_map, odd_length, mis_sized_def, write_first_def, write_upload_def}
-use Rattle.uploads.specs.Inner.{first_pairs}
 use Rattle.uploads.proofs.put_later.Goals as goal
 
 pub put_head-first-requires : goal.put_head-first-requires

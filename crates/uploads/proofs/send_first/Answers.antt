@@ -2,16 +2,8 @@
 -- Assumes nothing.
 use mathlib.Core.Path.{sym, ◌∙◌}
 use native.Mathlib.Omega.{arith}
-use borrow.Author.Tests.{not-true, not-false}
 use Rattle.uploads.specs.Upload.{first_map}
 use Rattle.host.proofs.Writing.{sendable_fits, request_sent, request_refused}
-use borrow.Author.Rules.{rules}
-use Rattle.std.proofs.Common.{◌≡◌, false, ◌++◌, ◌+◌, ◌≤◌, length, ℕ, ◌-◌, ◌*◌, ◌<◌, ◌/◌, ◌%◌, Bool, true, nat_eq, nat_lt, List, [], ◌∷◌, slice_index_or, slice_set, bit_and, bit_or, Fits, w8, w32, w64, Bor, MutBor}
-use Rattle.cbor.specs.Inner.{Put}
-use Rattle.cbor.specs.Write.{bytes_of, text_of}
-use Rattle.host.specs.Write.{request_packet, outcome, put}
-use Rattle.uploads.specs.Upload.{later_map, odd_length, mis_sized_def, write_first_def, write_upload_def}
-use Rattle.uploads.specs.Inner.{first_pairs}
 use Rattle.uploads.proofs.send_first.Goals as goal
 
 pub returns-then-not-is_sendable : goal.returns-then-not-is_sendable

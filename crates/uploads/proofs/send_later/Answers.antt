@@ -3,17 +3,9 @@
 use mathlib.Core.Path.{sym, ◌∙◌}
 use native.Mathlib.Omega.{arith}
 use lib.ListN.{length}
-use borrow.Author.Tests.{not-true, not-false}
 use Rattle.uploads.specs.Upload.{later_map}
 use Rattle.host.proofs.Writing.{sendable_fits, request_sent, request_refused, head_most}
 use Rattle.uploads.proofs.Maps.{later_length}
-use borrow.Author.Rules.{rules}
-use Rattle.std.proofs.Common.{◌≡◌, false, ◌++◌, ◌+◌, ◌≤◌, ℕ, ◌-◌, ◌*◌, ◌<◌, ◌/◌, ◌%◌, Bool, true, nat_eq, nat_lt, List, [], ◌∷◌, slice_index_or, slice_set, bit_and, bit_or, Fits, w8, w32, w64, Bor, MutBor}
-use Rattle.cbor.specs.Inner.{Put}
-use Rattle.cbor.specs.Write.{bytes_of, text_of}
-use Rattle.host.specs.Write.{request_packet, outcome, put}
-use Rattle.uploads.specs.Upload.{first_map, odd_length, mis_sized_def, write_first_def, write_upload_def}
-use Rattle.uploads.specs.Inner.{first_pairs}
 use Rattle.uploads.proofs.send_later.Goals as goal
 
 pub overflow_add-total : goal.overflow_add-total

@@ -4,10 +4,6 @@ use mathlib.Core.Path.{sym, ◌∙◌}
 use native.Mathlib.Omega.{arith}
 use borrow.Author.Rules.{rules}
 use Rattle.collector.proofs.Laws.{possible_count, collect_impossible, collect_long, collect_steps}
-use Rattle.std.proofs.Common.{◌≡◌, ◌+◌, ◌≤◌, length, take, drop, ℕ, ◌-◌, ◌*◌, ◌<◌, ◌/◌, ◌%◌, Bool, true, false, nat_eq, nat_lt, List, [], ◌∷◌, ◌++◌, slice_index_or, slice_set, bit_and, bit_or, Fits, w8, w32, w64, Bor, MutBor}
-use Rattle.frame.specs.Line.{longest, newline}
-use Rattle.collector.specs.Search.{slice, index_of}
-use Rattle.collector.specs.Collector.{most, longest_lump, before, has_newline, impossible, nothing, empty, longer, ended, said, saying, outcome, stepped, collect}
 use Rattle.collector.proofs.Collector.collect.Goals as goal
 
 pub returns-then-is_impossible : goal.returns-then-is_impossible

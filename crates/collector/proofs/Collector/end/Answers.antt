@@ -1,14 +1,7 @@
 -- `collector::Collector::end` meets its contract: held bytes, new bytes and 0A one after the other are the line.
 -- Assumes nothing.
-use mathlib.Core.Path.{sym}
 use native.Mathlib.Omega.{arith}
-use lib.ListN.{length-take, length-set}
-use borrow.Author.Rules.{rules}
 use Rattle.collector.proofs.Laws.{saying_skipping, saying_over, saying_line, line_begun}
-use Rattle.std.proofs.Common.{◌≡◌, ◌+◌, ◌≤◌, length, take, drop, ℕ, ◌-◌, ◌*◌, ◌<◌, ◌/◌, ◌%◌, Bool, true, false, nat_eq, nat_lt, List, [], ◌∷◌, ◌++◌, slice_index_or, slice_set, bit_and, bit_or, Fits, w8, w32, w64, Bor, MutBor}
-use Rattle.frame.specs.Line.{longest, newline}
-use Rattle.collector.specs.Search.{slice, index_of}
-use Rattle.collector.specs.Collector.{most, longest_lump, before, has_newline, impossible, nothing, empty, longer, ended, said, saying, outcome, stepped, collect}
 use Rattle.collector.proofs.Collector.end.Goals as goal
 
 pub returns-then-self : goal.returns-then-self

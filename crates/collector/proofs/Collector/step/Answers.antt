@@ -1,11 +1,6 @@
 -- `collector::Collector::step` meets its contract: it goes past the lump's end, to it, or to the first 0A.
 -- Assumes nothing.
-use borrow.Author.Rules.{rules}
 use Rattle.collector.proofs.Laws.{step_past, step_rest, step_line}
-use Rattle.std.proofs.Common.{◌≡◌, ◌+◌, ◌≤◌, length, take, drop, ℕ, ◌-◌, ◌*◌, ◌<◌, ◌/◌, ◌%◌, Bool, true, false, nat_eq, nat_lt, List, [], ◌∷◌, ◌++◌, slice_index_or, slice_set, bit_and, bit_or, Fits, w8, w32, w64, Bor, MutBor}
-use Rattle.frame.specs.Line.{longest, newline}
-use Rattle.collector.specs.Search.{slice, index_of}
-use Rattle.collector.specs.Collector.{most, longest_lump, before, has_newline, impossible, nothing, empty, longer, ended, said, saying, outcome, stepped, collect}
 use Rattle.collector.proofs.Collector.step.Goals as goal
 
 pub returns-then-len-at : goal.returns-then-len-at
