@@ -32,8 +32,7 @@ returns-in_default c =
 
 pub returns : goal.returns
 returns c =
-    let a =
-    c.args in
+    let a = c.args in
     c.respond.ensures
     ∙ ap (handled a.layout (state_of a.memory.now a.tag.now a.session) a.packet.now a.reply.now)
     (sym (taking_request a.layout (state_of a.memory.now a.tag.now a.session) a.packet.now a.reply.now _

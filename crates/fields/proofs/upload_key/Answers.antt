@@ -33,8 +33,7 @@ unfolding key_of
 returns-then-name_is-3 c =
     let a = c.args in
     let k : List ℕ = take a.len (drop a.start a.s.now) in
-    let e₁ : same k name_data ≡ false =
-    sym c.name_is.ensures ∙ c.if-name_is.false in
+    let e₁ : same k name_data ≡ false = sym c.name_is.ensures ∙ c.if-name_is.false in
     let e₂ : same k name_off ≡ false = sym c.name_is-2.ensures ∙ c.if-name_is-2.false in
     let e₃ : same k name_len ≡ true = sym c.name_is-3.ensures ∙ c.if-name_is-3.true in
     simp (e₁, e₂, e₃, pick_no, pick_yes)
@@ -44,9 +43,7 @@ unfolding key_of later_name
 returns c =
     let a = c.args in
     let k : List ℕ = take a.len (drop a.start a.s.now) in
-    let e₁ : same k name_data ≡ false =
-    sym c.name_is.ensures
-    ∙ c.if-name_is.false in
+    let e₁ : same k name_data ≡ false = sym c.name_is.ensures ∙ c.if-name_is.false in
     let e₂ : same k name_off ≡ false = sym c.name_is-2.ensures ∙ c.if-name_is-2.false in
     let e₃ : same k name_len ≡ false = sym c.name_is-3.ensures ∙ c.if-name_is-3.false in
     c.upload_later.ensures ∙ simp (e₁, e₂, e₃, pick_no)

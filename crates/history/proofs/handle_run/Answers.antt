@@ -35,8 +35,7 @@ returns-then-run-start c =
 pub loop-at-preserved : goal.loop-at-preserved
 loop-at-preserved c =
     let l = c.loop-at in
-    let a =
-    c.args in
+    let a = c.args in
     let run = a.run.now in
     let st = state_of l.memory l.tag l.session in
     let memory = c.handle_next-session.new.memory in
@@ -47,8 +46,7 @@ loop-at-preserved c =
     let end = start + (c.wide.result * 256 + c.wide-in-loop-at.result) in
     let length_is : end - start ≡ size_at run l.at = omega (arith, size) in
     let part : take (end - start) (drop start run) ≡ take (size_at run l.at) (drop start run) = ap (λ (n : ℕ). take n (drop start run)) length_is in
-    let two : 2 ≤ length run - l.at =
-    omega (arith, c.loop-at-test.true) in
+    let two : 2 ≤ length run - l.at = omega (arith, c.loop-at-test.true) in
     let whole : size_at run l.at ≤ length run - (l.at + 2) =
     omega (arith, size, c.if-run-start.false) in (
       omega (

@@ -27,8 +27,7 @@ put_text-second-requires c =
     let x : List ℕ = map_of 1 in
     let y : List ℕ = text_of name_d in
     let z : List ℕ = text_of a.text.now in
-    let room : 8 + length ((x ++ y) ++ z) ≤ length a.buf.now =
-    rw (echo_parts a.text.now) at c.requires in
+    let room : 8 + length ((x ++ y) ++ z) ≤ length a.buf.now = rw (echo_parts a.text.now) at c.requires in
     let inner = room_first 8 (x ++ y) z room in
     omega (arith, room_rest 8 x y c.put_head-first.ensures.place inner)
 
@@ -38,12 +37,9 @@ put_text-requires c =
     let x : List ℕ = map_of 1 in
     let y : List ℕ = text_of name_d in
     let z : List ℕ = text_of a.text.now in
-    let room : 8 + length ((x ++ y) ++ z) ≤ length a.buf.now =
-    rw (echo_parts a.text.now) at c.requires in
+    let room : 8 + length ((x ++ y) ++ z) ≤ length a.buf.now = rw (echo_parts a.text.now) at c.requires in
     let inner = room_first 8 (x ++ y) z room in
-    let front =
-    put_then (room_first 8 x y inner) c.put_head-first.ensures
-    c.put_text-second.ensures in
+    let front = put_then (room_first 8 x y inner) c.put_head-first.ensures c.put_text-second.ensures in
     omega (arith, room_rest 8 (x ++ y) z front.place room)
 
 pub returns : goal.returns
@@ -52,9 +48,7 @@ returns c =
     let x : List ℕ = map_of 1 in
     let y : List ℕ = text_of name_d in
     let z : List ℕ = text_of a.text.now in
-    let room : 8 + length ((x ++ y) ++ z) ≤ length a.buf.now =
-    rw (echo_parts a.text.now) at
-    c.requires in
+    let room : 8 + length ((x ++ y) ++ z) ≤ length a.buf.now = rw (echo_parts a.text.now) at c.requires in
     let inner = room_first 8 (x ++ y) z room in
     let front =
     put_then (room_first 8 x y inner)

@@ -8,8 +8,6 @@ use Rattle.images.specs.Image.{Entry}
 use Rattle.images.specs.Inner.{hash_noted, noted}
 use Rattle.images.proofs.note.Goals as goal
 
--- `images::note` meets its contract: other entries leave what was found, and a SHA-256 entry counts by what was found before it.
--- Assumes nothing.
 -- a SHA-256 entry after what was found
 hash-noted : (f g : Found) (e : Entry) → e.kind ≡ 0x10 → f ≡ g → hash_noted g e ≡ noted f e
 unfolding noted

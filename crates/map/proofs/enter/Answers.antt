@@ -25,24 +25,15 @@ returns-then-f-at-ne0 c =
 pub returns-then-given-wanted : goal.returns-then-given-wanted
 returns-then-given-wanted c =
     let a = c.args in
-    let known : type_for_def a.k ≡ 99 → ⊥ =
-    λ h. c.if-wanted-eq99.false (c.type_for-wanted.ensures ∙ h) in
-    let free : get_or a.f.now (place_of_def a.k) 0 ≡ 0 =
-    sym (ap (λ (n : ℕ). get_or a.f.now n 0) c.place_of-at.ensures.0) ∙ c.if-f-at-ne0.false in
-    let other : type_of a.v ≡ type_for_def a.k → ⊥ =
-    λ h. c.if-given-wanted.true (c.type_of-given.ensures ∙ h ∙ sym c.type_for-wanted.ensures) in
+    let known : type_for_def a.k ≡ 99 → ⊥ = λ h. c.if-wanted-eq99.false (c.type_for-wanted.ensures ∙ h) in
+    let free : get_or a.f.now (place_of_def a.k) 0 ≡ 0 = sym (ap (λ (n : ℕ). get_or a.f.now n 0) c.place_of-at.ensures.0) ∙ c.if-f-at-ne0.false in
+    let other : type_of a.v ≡ type_for_def a.k → ⊥ = λ h. c.if-given-wanted.true (c.type_of-given.ensures ∙ h ∙ sym c.type_for-wanted.ensures) in
     finds_bad (enter_type a.k a.v a.next a.f.now known free other)
 
 pub returns : goal.returns
 returns c =
     let a = c.args in
-    let known : type_for_def a.k ≡ 99 → ⊥ =
-    λ h. c.if-wanted-eq99.false
-    (c.type_for-wanted.ensures ∙ h) in
-    let free : get_or a.f.now (place_of_def a.k) 0 ≡ 0 =
-    sym (ap (λ (n : ℕ). get_or a.f.now n 0) c.place_of-at.ensures.0)
-    ∙ c.if-f-at-ne0.false in
-    let type : type_of a.v ≡ type_for_def a.k =
-    sym c.type_of-given.ensures ∙ c.if-given-wanted.false
-    ∙ c.type_for-wanted.ensures in
+    let known : type_for_def a.k ≡ 99 → ⊥ = λ h. c.if-wanted-eq99.false (c.type_for-wanted.ensures ∙ h) in
+    let free : get_or a.f.now (place_of_def a.k) 0 ≡ 0 = sym (ap (λ (n : ℕ). get_or a.f.now n 0) c.place_of-at.ensures.0) ∙ c.if-f-at-ne0.false in
+    let type : type_of a.v ≡ type_for_def a.k = sym c.type_of-given.ensures ∙ c.if-given-wanted.false ∙ c.type_for-wanted.ensures in
     finds_to a.next (enter_field a.k a.v a.next a.f.now known free type ∙ ap (up_to a.next) (sym c.store.ensures))

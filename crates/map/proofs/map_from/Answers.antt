@@ -25,7 +25,5 @@ returns-in_default c =
 pub returns : goal.returns
 returns c =
     let a = c.args in
-    let w =
-    ap (λ (f : List ℕ). map_at_def a.kind a.s.now a.from f) (sym c.requires)
-    ∙ found_to c.map_at-walked.ensures _ c.in-To.is in
+    let w = ap (λ (f : List ℕ). map_at_def a.kind a.s.now a.from f) (sym c.requires) ∙ found_to c.map_at-walked.ensures _ c.in-To.is in
     from_ends a.kind a.s.now a.from c.if-s-from.false _ _ w

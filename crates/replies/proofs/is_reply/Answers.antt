@@ -8,8 +8,6 @@ use Rattle.laws.proofs.Choice.{both_yes, both_no}
 use Rattle.replies.specs.Read.{is_reply_def}
 use Rattle.replies.proofs.is_reply.Goals as goal
 
--- `replies::is_reply` meets its contract: the length is tested first, then the op.
--- Assumes nothing.
 -- a test that is turned twice
 not-twice : (b : Bool) → b ≡ not (not b)
 not-twice true = refl

@@ -22,8 +22,7 @@ pub returns : goal.returns
 unfolding map_read read_reply_def
 returns c =
     let a = c.args in
-    let kind : is_reply_def a.s.now ≡ true =
-    sym c.is_reply-reply.ensures ∙ c.if-not-reply.false in
+    let kind : is_reply_def a.s.now ≡ true = sym c.is_reply-reply.ensures ∙ c.if-not-reply.false in
     simp (kind, pick_yes)
     (c.values_of.ensures ∙ sym (ap (map_read a.s.now) (read_map c.map_from-whole.ensures
     c.if-not-whole.false)))

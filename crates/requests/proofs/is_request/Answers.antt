@@ -8,8 +8,6 @@ use Rattle.laws.proofs.Choice.{both_yes, both_no}
 use Rattle.requests.specs.Request.{is_request_def}
 use Rattle.requests.proofs.is_request.Goals as goal
 
--- `requests::is_request` meets its contract: the length is tested first, then the op.
--- Assumes nothing.
 -- a test denied twice is the test
 not-twice : (b : Bool) → b ≡ not (not b)
 not-twice true = refl

@@ -10,8 +10,6 @@ use Rattle.rules.proofs.Laws.{tag_closed, tag_untagged, tag_absent, tag_compared
 use Rattle.rules.proofs.has_same_tag.Goals.{In-At}
 use Rattle.rules.proofs.has_same_tag.Goals as goal
 
--- `rules::has_same_tag` meets its contract: no open session, no tag of it, no tag of the request, and then the two tags compared.
--- Assumes nothing.
 -- where the request has a tag: it ends within the bytes that the request came in
 inside : (c : In-At)
     → c.in-At.start + c.in-At.len ≤ length c.args.source.now

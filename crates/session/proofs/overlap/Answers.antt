@@ -10,8 +10,6 @@ use Rattle.session.specs.declared.Slot.{Slot}
 use Rattle.session.specs.Session.{overlapping}
 use Rattle.session.proofs.overlap.Goals as goal
 
--- `session::overlap` meets its contract: no byte is in both where one region ends before the other, or is empty.
--- Assumes nothing.
 -- the later start is not before the sooner end
 apart : (a b : Slot) → min (a.start + a.size) (b.start + b.size) ≤ max a.start b.start → false ≡ overlapping a b
 unfolding overlapping

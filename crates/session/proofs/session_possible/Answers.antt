@@ -19,9 +19,7 @@ returns-then-session-lt1 c =
 pub returns-then-slot-session : goal.returns-then-slot-session
 unfolding session_ok
 returns-then-slot-session c =
-    let running =
-    not-false c.args.session.running
-    c.if-not-session.false in
+    let running = not-false c.args.session.running c.if-not-session.false in
     simp (running, le-leb _ _ c.if-session-lt1.false, lt-leb _ _ c.if-slot-session.true, pick_yes, both_yes, both_no)
 
 pub returns-then-session-lt1-2 : goal.returns-then-session-lt1-2

@@ -12,8 +12,6 @@ use Rattle.slot.proofs.Memory.{Room, append_room}
 use Rattle.slot.proofs.append.Goals.{Start}
 use Rattle.slot.proofs.append.Goals as goal
 
--- `slot::append` meets its contract: the data fits after the session's place, and the copy fills the start of the part that begins there.
--- Assumes nothing.
 -- at the function's entry: memory and slot have room for the data
 room : (c : Start) → Room c.args.slot c.args.session (length c.args.«data».now) (length c.args.memory.now)
 room c =

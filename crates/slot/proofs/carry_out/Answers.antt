@@ -16,8 +16,6 @@ use Rattle.slot.proofs.Fit.{fit_at_place, planned_fit, started_tag}
 use Rattle.slot.proofs.carry_out.Goals.{Start as Entry}
 use Rattle.slot.proofs.carry_out.Goals as goal
 
--- `slot::carry_out` meets its contract: a refusal and an offset told leave all as it was, and what the plan came to is fit to be done.
--- Assumes nothing.
 -- the state at the function's entry
 abbrev before : (c : Entry) → State
 before c = state_of c.args.memory.now c.args.tag.now c.args.session

@@ -8,8 +8,6 @@ use Rattle.slot.proofs.Memory.{cleared}
 use Rattle.slot.proofs.clear.Goals.{Start}
 use Rattle.slot.proofs.clear.Goals as goal
 
--- `slot::clear` meets its contract: the part from the slot's start to its end is filled.
--- Assumes nothing.
 -- at the function's entry: the slot's bounds
 bounds : (c : Start) → Region c.args.slot (length c.args.memory.now)
 bounds c = region_bounds c.args.slot (length c.args.memory.now) c.requires

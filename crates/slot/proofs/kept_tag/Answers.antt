@@ -8,8 +8,6 @@ use Rattle.slot.proofs.Laws.{part_size, kept_none, kept_tag_lem}
 use Rattle.slot.proofs.kept_tag.Goals.{In-At}
 use Rattle.slot.proofs.kept_tag.Goals as goal
 
--- `slot::kept_tag` meets its contract: without a tag zeros are given, and a tag fills all that is given.
--- Assumes nothing.
 -- where the request has a tag: it ends within the bytes that the request came in
 inside : (c : In-At) → c.in-At.start + c.in-At.len ≤ length c.args.source.now
 inside c =

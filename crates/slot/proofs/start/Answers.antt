@@ -12,8 +12,6 @@ use Rattle.slot.proofs.Memory.{blank_room}
 use Rattle.slot.proofs.start.Goals.{After-clear}
 use Rattle.slot.proofs.start.Goals as goal
 
--- `slot::start` meets its contract: the slot is blank first, and the copy fills its start.
--- Assumes nothing.
 -- after the slot was cleared: the memory still holds it
 room : (c : After-clear) → (let slot = c.args.slot in slot.start + slot.size ≤ length c.clear.new.memory)
 room c =

@@ -27,9 +27,7 @@ pub put_text-requires : goal.put_text-requires
 put_text-requires c =
     let a = c.args in
     let t = text_of (take (a.start + a.len - a.start) (drop a.start a.s.now)) in
-    let room =
-    rw (echo_parts a.s.now a.start a.len) at
-    c.requires.len_in_bounds_2 in
+    let room = rw (echo_parts a.s.now a.start a.len) at c.requires.len_in_bounds_2 in
     omega (
       arith,
       room_three 8 (map_of 1) (text_of name_r) t
@@ -41,9 +39,7 @@ pub returns : goal.returns
 returns c =
     let a = c.args in
     let t = text_of (take (a.start + a.len - a.start) (drop a.start a.s.now)) in
-    let room =
-    rw (echo_parts a.s.now a.start a.len) at
-    c.requires.len_in_bounds_2 in
+    let room = rw (echo_parts a.s.now a.start a.len) at c.requires.len_in_bounds_2 in
     rw (echo_parts a.s.now a.start a.len) (put_three 8 (map_of 1) (text_of name_r) t room
     c.put_head-first.ensures
     c.put_text-second.ensures c.put_text.ensures)

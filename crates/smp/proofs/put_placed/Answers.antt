@@ -38,8 +38,7 @@ put_number-requires c =
 pub returns : goal.returns
 returns c =
     let n = c.args.n in
-    let room =
-    rw (placed_parts [] n) at c.requires in
+    let room = rw (placed_parts [] n) at c.requires in
     rw (placed_parts [] n) (put_three 8 (map_of 2) (text_of name_rc ++ unsigned 0) (text_of name_off ++ unsigned n) room
     c.put_head-first.ensures
     c.put_number-second.ensures c.put_number.ensures)

@@ -36,8 +36,7 @@ returns-then-tag-eq0 c =
     let x : List ℕ = map_of 3 in
     let y : List ℕ = first_pairs a.«data».now a.size in
     let is = first_untagged a.«data».now a.size a.tag.now c.if-tag-eq0.true in
-    let room : 8 + length (x ++ y) ≤ length a.buf.now =
-    rw is at c.requires in
+    let room : 8 + length (x ++ y) ≤ length a.buf.now = rw is at c.requires in
     rw is (put_then (room_first 8 x y room) c.put_head-first.ensures c.put_pairs.ensures)
 
 pub put_head-first-requires-2 : goal.put_head-first-requires-2
@@ -68,15 +67,10 @@ put_bytes-requires c =
     let x : List ℕ = map_of 4 in
     let y : List ℕ = first_pairs a.«data».now a.size in
     let z : List ℕ = text_of name_sha ++ bytes_of a.tag.now in
-    let is =
-    first_tagged a.«data».now a.size a.tag.now
-    c.if-tag-eq0.false in
-    let room : 8 + length ((x ++ y) ++ z) ≤ length a.buf.now =
-    rw is at c.requires in
+    let is = first_tagged a.«data».now a.size a.tag.now c.if-tag-eq0.false in
+    let room : 8 + length ((x ++ y) ++ z) ≤ length a.buf.now = rw is at c.requires in
     let inner = room_first 8 (x ++ y) z room in
-    let front =
-    put_then (room_first 8 x y inner) c.put_head-first-2.ensures
-    c.put_pairs-second.ensures in
+    let front = put_then (room_first 8 x y inner) c.put_head-first-2.ensures c.put_pairs-second.ensures in
     omega (arith, room_rest 8 (x ++ y) z front.place room)
 
 pub returns : goal.returns
@@ -85,11 +79,8 @@ returns c =
     let x : List ℕ = map_of 4 in
     let y : List ℕ = first_pairs a.«data».now a.size in
     let z : List ℕ = text_of name_sha ++ bytes_of a.tag.now in
-    let is =
-    first_tagged a.«data».now a.size a.tag.now
-    c.if-tag-eq0.false in
-    let room : 8 + length ((x ++ y) ++ z) ≤ length a.buf.now =
-    rw is at c.requires in
+    let is = first_tagged a.«data».now a.size a.tag.now c.if-tag-eq0.false in
+    let room : 8 + length ((x ++ y) ++ z) ≤ length a.buf.now = rw is at c.requires in
     let inner = room_first 8 (x ++ y) z room in
     let front =
     put_then (room_first 8 x y inner)

@@ -27,8 +27,7 @@ put_bytes-second-requires c =
     let x : List ℕ = map_of 2 in
     let y : List ℕ = text_of name_data ++ bytes_of a.«data».now in
     let z : List ℕ = text_of name_off ++ unsigned a.off in
-    let room : 8 + length ((x ++ y) ++ z) ≤ length a.buf.now =
-    rw (later_parts a.«data».now a.off) at c.requires in
+    let room : 8 + length ((x ++ y) ++ z) ≤ length a.buf.now = rw (later_parts a.«data».now a.off) at c.requires in
     let inner = room_first 8 (x ++ y) z room in
     omega (arith, room_rest 8 x y c.put_head-first.ensures.place inner)
 
@@ -38,13 +37,9 @@ put_number-requires c =
     let x : List ℕ = map_of 2 in
     let y : List ℕ = text_of name_data ++ bytes_of a.«data».now in
     let z : List ℕ = text_of name_off ++ unsigned a.off in
-    let room : 8 + length ((x ++ y) ++ z) ≤ length a.buf.now =
-    rw (later_parts a.«data».now a.off) at
-    c.requires in
+    let room : 8 + length ((x ++ y) ++ z) ≤ length a.buf.now = rw (later_parts a.«data».now a.off) at c.requires in
     let inner = room_first 8 (x ++ y) z room in
-    let front =
-    put_then (room_first 8 x y inner) c.put_head-first.ensures
-    c.put_bytes-second.ensures in
+    let front = put_then (room_first 8 x y inner) c.put_head-first.ensures c.put_bytes-second.ensures in
     omega (arith, room_rest 8 (x ++ y) z front.place room)
 
 pub returns : goal.returns
@@ -53,9 +48,7 @@ returns c =
     let x : List ℕ = map_of 2 in
     let y : List ℕ = text_of name_data ++ bytes_of a.«data».now in
     let z : List ℕ = text_of name_off ++ unsigned a.off in
-    let room : 8 + length ((x ++ y) ++ z) ≤ length a.buf.now =
-    rw (later_parts a.«data».now a.off) at
-    c.requires in
+    let room : 8 + length ((x ++ y) ++ z) ≤ length a.buf.now = rw (later_parts a.«data».now a.off) at c.requires in
     let inner = room_first 8 (x ++ y) z room in
     let front =
     put_then (room_first 8 x y inner)

@@ -14,8 +14,7 @@ returns c =
     let x : List ℕ = text_of name_data ++ bytes_of a.«data».now in
     let y : List ℕ = text_of name_len ++ unsigned a.size in
     let z : List ℕ = text_of name_off ++ unsigned 0 in
-    let room : a.at + length ((x ++ y) ++ z) ≤ length a.buf.now =
-    c.requires in
+    let room : a.at + length ((x ++ y) ++ z) ≤ length a.buf.now = c.requires in
     let inner = room_first a.at (x ++ y) z room in
     let front =
     put_then (room_first a.at x y inner)
