@@ -23,10 +23,10 @@
  * without what memcpy and memset take:
  *   bg_collect           408
  *   bg_take_line        1072
- *   bg_send_frame        768
+ *   bg_send_frame        792
  *   bg_configure           8
- *   bg_handle            640
- *   bg_write_echo          8
+ *   bg_handle            680
+ *   bg_write_echo         56
  *   bg_write_reset         8
  *   bg_write_erase         8
  *   bg_write_upload      200
