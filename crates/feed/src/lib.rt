@@ -53,7 +53,7 @@ fn hand_over(
     ensures { (reader : List ℕ) → record {
       says = result;
       bench = record {
-        memory = memory.exit.now;
+        memory = memory.new;
         session = session.new;
         tag = tag.new;
         reader = reader;
@@ -61,7 +61,7 @@ fn hand_over(
         reply = reply.new;
       };
     } ≡ hand_over_def (record {
-      memory = memory.entry.now;
+      memory = memory.old;
       session = session.old;
       tag = tag.old;
       reader = reader;
@@ -111,7 +111,7 @@ pub fn feed_line(
     ensures { record {
       says = result;
       bench = record {
-        memory = memory.exit.now;
+        memory = memory.new;
         session = session.new;
         tag = tag.new;
         reader = reader.new;
@@ -119,7 +119,7 @@ pub fn feed_line(
         reply = reply.new;
       };
     } ≡ feed_line_def (record {
-      memory = memory.entry.now;
+      memory = memory.old;
       session = session.old;
       tag = tag.old;
       reader = reader.old;

@@ -47,7 +47,7 @@ fn replay_record(
     requires { 4 * count + 4 ≤ length answers.old }
     ensures reply_after { (rest : List Entry) → ending result answers.new
         (fed rest (record {
-          memory = memory.exit.now;
+          memory = memory.new;
           session = session.new;
           tag = tag.new;
           reader = reader.new;
@@ -56,7 +56,7 @@ fn replay_record(
         }))
         ≡ ending count answers.old (fed (record { is_to_controller = to_controller; line = line.now } ∷ rest)
         (record {
-          memory = memory.entry.now;
+          memory = memory.old;
           session = session.old;
           tag = tag.old;
           reader = reader.old;
@@ -90,7 +90,7 @@ fn replay_records(
     requires number_in_bounds { 4 * number ≤ length answers.old }
     ensures { Ends file.now place number answers.old
         (record {
-          memory = memory.entry.now;
+          memory = memory.old;
           session = session.old;
           tag = tag.old;
           reader = reader.old;
@@ -99,7 +99,7 @@ fn replay_records(
         }) (record {
           result = 0;
           bench = record {
-            memory = memory.exit.now;
+            memory = memory.new;
             session = session.new;
             tag = tag.new;
             reader = reader.new;
@@ -163,7 +163,7 @@ pub fn replay_file(
     ensures { record {
       result = result;
       bench = record {
-        memory = memory.exit.now;
+        memory = memory.new;
         session = session.new;
         tag = tag.new;
         reader = reader.new;
@@ -173,7 +173,7 @@ pub fn replay_file(
       answers = answers.new;
       count = count.new;
     } ≡ replayed (record {
-      memory = memory.entry.now;
+      memory = memory.old;
       session = session.old;
       tag = tag.old;
       reader = reader.old;
