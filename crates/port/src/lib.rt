@@ -1,5 +1,5 @@
-// The C interface: both ends of the port as functions on numbers, byte slices and small arrays of numbers. include/belagunthi.h declares
-// them, with each promise beside its call.
+// The C interface: both ends of the port as functions on numbers, byte slices and small arrays of numbers. port_c exports them, and
+// include/belagunthi.h declares them, with each promise beside its call.
 #![tactic(auto)]
 
 ghost use Rattle.std.specs.Prelude.{◌≡◌};

@@ -29,7 +29,8 @@ write_response-n-requires-clause-memory_value c =
     let st = state_of a.memory.now a.tag.now a.session in
     let oks = both_true (layout_ok a.layout (length a.memory.now)) (session_ok slot a.session) c.requires.session_value in
     let meant : c.carry-done.result.response ≡ response_for slot st (done slot (act_for slot st p a.request) st) p a.request =
-    c.carry-done.ensures.response ∙ ap (λ (x : State). response_for slot st x p a.request) c.carry-done.ensures.state in (subst (λ (n : ℕ). layout_ok a.layout n ≡ true) (sym c.carry-done.auto.memory) oks.0)
+    c.carry-done.ensures.response ∙ ap (λ (x : State). response_for slot st x p a.request) c.carry-done.ensures.state in
+    (subst (λ (n : ℕ). layout_ok a.layout n ≡ true) (sym c.carry-done.auto.memory) oks.0)
 
 pub write_response-n-requires-clause-packet_bound : goal.write_response-n-requires-clause-packet_bound
 write_response-n-requires-clause-packet_bound c =
@@ -39,7 +40,8 @@ write_response-n-requires-clause-packet_bound c =
     let st = state_of a.memory.now a.tag.now a.session in
     let oks = both_true (layout_ok a.layout (length a.memory.now)) (session_ok slot a.session) c.requires.session_value in
     let meant : c.carry-done.result.response ≡ response_for slot st (done slot (act_for slot st p a.request) st) p a.request =
-    c.carry-done.ensures.response ∙ ap (λ (x : State). response_for slot st x p a.request) c.carry-done.ensures.state in (omega (arith, (request_sized p a.request c.requires.packet_value).2))
+    c.carry-done.ensures.response ∙ ap (λ (x : State). response_for slot st x p a.request) c.carry-done.ensures.state in
+    (omega (arith, (request_sized p a.request c.requires.packet_value).2))
 
 pub write_response-n-requires-clause-answerable : goal.write_response-n-requires-clause-answerable
 write_response-n-requires-clause-answerable c =
@@ -56,12 +58,14 @@ pub returns-then-asks_reset : goal.returns-then-asks_reset
 returns-then-asks_reset c =
     let a = c.args in
     carried_reset a.layout (state_of a.memory.now a.tag.now a.session) a.packet.now a.reply.now a.request c.carry-done.result.response
-    c.write_response-n.result _ (state_of c.carry-done.new.memory c.carry-done.new.tag c.carry-done.result.session) c.carry-done.ensures.state c.carry-done.ensures.response c.write_response-n.ensures
+    c.write_response-n.result _ (state_of c.carry-done.new.memory c.carry-done.new.tag c.carry-done.result.session) c.carry-done.ensures.state
+    c.carry-done.ensures.response c.write_response-n.ensures
     (sym c.asks_reset.ensures ∙ c.if-asks_reset.true)
 
 pub returns : goal.returns
 returns c =
     let a = c.args in
     carried_plain a.layout (state_of a.memory.now a.tag.now a.session) a.packet.now a.reply.now a.request c.carry-done.result.response
-    c.write_response-n.result _ (state_of c.carry-done.new.memory c.carry-done.new.tag c.carry-done.result.session) c.carry-done.ensures.state c.carry-done.ensures.response c.write_response-n.ensures
+    c.write_response-n.result _ (state_of c.carry-done.new.memory c.carry-done.new.tag c.carry-done.result.session) c.carry-done.ensures.state
+    c.carry-done.ensures.response c.write_response-n.ensures
     (sym c.asks_reset.ensures ∙ c.if-asks_reset.false)

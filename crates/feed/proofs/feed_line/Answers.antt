@@ -9,7 +9,13 @@ use Rattle.feed.proofs.feed_line.Goals as goal
 pub returns-then-refusal-ne0 : goal.returns-then-refusal-ne0
 returns-then-refusal-ne0 c =
     let a = c.args in
-    let t : TookLine = record { result = c.take_line-refusal.result; record_after = c.take_line-refusal.new.record; packet = c.take_line-refusal.new.packet; body = c.take_line-refusal.new.body; place = c.take_line-refusal.new.place } in
+    let t : TookLine = record {
+      result = c.take_line-refusal.result;
+      record_after = c.take_line-refusal.new.record;
+      packet = c.take_line-refusal.new.packet;
+      body = c.take_line-refusal.new.body;
+      place = c.take_line-refusal.new.place;
+    } in
     let b : Bench = record {
       memory = a.memory.now;
       session = a.session.now;
@@ -23,7 +29,13 @@ returns-then-refusal-ne0 c =
 pub returns-then-body-eq0 : goal.returns-then-body-eq0
 returns-then-body-eq0 c =
     let a = c.args in
-    let t : TookLine = record { result = c.take_line-refusal.result; record_after = c.take_line-refusal.new.record; packet = c.take_line-refusal.new.packet; body = c.take_line-refusal.new.body; place = c.take_line-refusal.new.place } in
+    let t : TookLine = record {
+      result = c.take_line-refusal.result;
+      record_after = c.take_line-refusal.new.record;
+      packet = c.take_line-refusal.new.packet;
+      body = c.take_line-refusal.new.body;
+      place = c.take_line-refusal.new.place;
+    } in
     let b : Bench = record {
       memory = a.memory.now;
       session = a.session.now;
@@ -37,7 +49,13 @@ returns-then-body-eq0 c =
 pub returns : goal.returns
 returns c =
     let a = c.args in
-    let t : TookLine = record { result = c.take_line-refusal.result; record_after = c.take_line-refusal.new.record; packet = c.take_line-refusal.new.packet; body = c.take_line-refusal.new.body; place = c.take_line-refusal.new.place } in
+    let t : TookLine = record {
+      result = c.take_line-refusal.result;
+      record_after = c.take_line-refusal.new.record;
+      packet = c.take_line-refusal.new.packet;
+      body = c.take_line-refusal.new.body;
+      place = c.take_line-refusal.new.place;
+    } in
     let b : Bench = record {
       memory = a.memory.now;
       session = a.session.now;

@@ -14,4 +14,5 @@ pub returns : goal.returns
 returns c =
     let a = c.args in
     c.told_line.ensures c.take_line-taken.new.p
-    ∙ sym (took_is a.«record».now a.line.now a.packet.now a.body.now a.place.now c.take_line-taken.result c.take_line-taken.new.p c.reader_from-before.result c.reader_from-before.ensures c.take_line-taken.ensures)
+    ∙ sym (took_is a.«record».now a.line.now a.packet.now a.body.now a.place.now c.take_line-taken.result c.take_line-taken.new.p
+    c.reader_from-before.result c.reader_from-before.ensures c.take_line-taken.ensures)

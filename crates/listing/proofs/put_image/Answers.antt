@@ -43,7 +43,8 @@ put_hash-requires-clause-hash_in_bounds_2 c =
     let x : List ℕ = named_part a.number c.in-At.major c.in-At.minor c.in-At.revision in
     let z : List ℕ = bytes_of (part_of a.s.now c.in-At.hash 32) in
     let is = image_parts a.number a.s.now c.in-At.major c.in-At.minor c.in-At.revision c.in-At.hash in
-    let room = rw (c.in-At.is, is) at c.requires.image_in_bounds in omega (arith, room_three a.at x (text_of name_hash) z c.put_named-first.ensures.place c.put_text-second.ensures.place room)
+    let room = rw (c.in-At.is, is) at c.requires.image_in_bounds in omega
+    (arith, room_three a.at x (text_of name_hash) z c.put_named-first.ensures.place c.put_text-second.ensures.place room)
 
 pub returns : goal.returns
 returns c =

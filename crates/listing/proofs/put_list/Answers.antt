@@ -53,7 +53,8 @@ put_slot-next-requires-clause-size_in_bounds c =
     let x : List ℕ = image_map 0 (slot_in a.layout.slot0 a.memory.now) a.first in
     let y : List ℕ = image_map 1 (slot_in a.layout.slot1 a.memory.now) a.second in
     let sum = ap₂ (λ (i j : ℕ). i + j) c.count.ensures.0 c.count-2.ensures.0 in
-    let is = list_parts a.memory.now a.layout n a.first a.second c.requires.first_value.0 c.requires.first_value.1 sum in ((layout_bounds a.layout _ c.requires.memory_value).inside)
+    let is = list_parts a.memory.now a.layout n a.first a.second c.requires.first_value.0 c.requires.first_value.1 sum in
+    ((layout_bounds a.layout _ c.requires.memory_value).inside)
 
 pub put_slot-next-requires-clause-image_in_bounds : goal.put_slot-next-requires-clause-image_in_bounds
 put_slot-next-requires-clause-image_in_bounds c =
@@ -62,7 +63,8 @@ put_slot-next-requires-clause-image_in_bounds c =
     let x : List ℕ = image_map 0 (slot_in a.layout.slot0 a.memory.now) a.first in
     let y : List ℕ = image_map 1 (slot_in a.layout.slot1 a.memory.now) a.second in
     let sum = ap₂ (λ (i j : ℕ). i + j) c.count.ensures.0 c.count-2.ensures.0 in
-    let is = list_parts a.memory.now a.layout n a.first a.second c.requires.first_value.0 c.requires.first_value.1 sum in omega (arith, room_two 8 (list_front n) x y c.put_front-from.ensures.place (rw is at c.requires.layout_in_bounds))
+    let is = list_parts a.memory.now a.layout n a.first a.second c.requires.first_value.0 c.requires.first_value.1 sum in
+    omega (arith, room_two 8 (list_front n) x y c.put_front-from.ensures.place (rw is at c.requires.layout_in_bounds))
 
 pub put_slot-end-requires-clause-image_in_bounds : goal.put_slot-end-requires-clause-image_in_bounds
 put_slot-end-requires-clause-image_in_bounds c =
@@ -72,4 +74,8 @@ put_slot-end-requires-clause-image_in_bounds c =
     let y : List ℕ = image_map 1 (slot_in a.layout.slot1 a.memory.now) a.second in
     let sum = ap₂ (λ (i j : ℕ). i + j) c.count.ensures.0 c.count-2.ensures.0 in
     let is = list_parts a.memory.now a.layout n a.first a.second c.requires.first_value.0 c.requires.first_value.1 sum in
-    let room = rw is at c.requires.layout_in_bounds in omega (arith, room_three 8 (list_front n) x y c.put_front-from.ensures.place c.put_slot-next.ensures.place room)
+    let room = rw is at c.requires.layout_in_bounds in omega (
+      arith,
+      room_three 8 (list_front n) x y c.put_front-from.ensures.place
+          c.put_slot-next.ensures.place room,
+    )

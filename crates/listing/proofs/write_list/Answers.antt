@@ -35,7 +35,8 @@ pub put_list-requires-clause-layout_in_bounds : goal.put_list-requires-clause-la
 put_list-requires-clause-layout_in_bounds c =
     let a = c.args in
     let first = c.image_len.ensures.0 ∙ ap image_length c.image_at-first.ensures.0 in
-    let second = c.image_len-2.ensures.0 ∙ ap image_length c.image_at-second.ensures.0 in omega (arith, first, second, list_long a.memory.now a.layout, c.if-buf-size.false)
+    let second = c.image_len-2.ensures.0 ∙ ap image_length c.image_at-second.ensures.0 in
+    omega (arith, first, second, list_long a.memory.now a.layout, c.if-buf-size.false)
 
 pub returns : goal.returns
 returns c =

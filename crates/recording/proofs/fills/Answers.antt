@@ -36,8 +36,10 @@ loop-left-preserved c =
     let file = c.args.file.now in
     let l = c.loop-left in
     let one : l.left ≡ suc (l.left - 1) = omega (arith, c.loop-left-test.true) in
-    let whole : Whole c.in-Whole.to_controller c.in-Whole.start c.in-Whole.len ≡ record_at_def file (trailer_at file) l.at = sym c.in-Whole.is ∙ c.record_at.ensures in
-    sym (some_before (entry_of file c.in-Whole.to_controller c.in-Whole.start c.in-Whole.len) (entries_from file (l.left - 1) (c.in-Whole.start + c.in-Whole.len)))
+    let whole : Whole c.in-Whole.to_controller c.in-Whole.start c.in-Whole.len ≡ record_at_def file (trailer_at file) l.at = sym c.in-Whole.is
+    ∙ c.record_at.ensures in
+    sym (some_before (entry_of file c.in-Whole.to_controller c.in-Whole.start c.in-Whole.len)
+    (entries_from file (l.left - 1) (c.in-Whole.start + c.in-Whole.len)))
     ∙ sym (ap is_some (entries_next file (l.left - 1) l.at c.in-Whole.to_controller c.in-Whole.start c.in-Whole.len whole))
     ∙ sym (ap (λ (n : ℕ). is_some (entries_from file n l.at)) one)
     ∙ l.invariant

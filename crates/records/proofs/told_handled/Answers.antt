@@ -11,7 +11,8 @@ returns-in-Replied c =
 pub returns-in-ResetAsked : goal.returns-in-ResetAsked
 returns-in-ResetAsked c =
     let a = c.args in
-    λ m tag b. handled_reset a.«record».now a.answer.now a.handled m tag b c.in-ResetAsked.n c.store_session-in-ResetAsked.new.record c.in-ResetAsked.is c.store_session-in-ResetAsked.ensures
+    λ m tag b. handled_reset a.«record».now a.answer.now a.handled m tag b c.in-ResetAsked.n c.store_session-in-ResetAsked.new.record
+    c.in-ResetAsked.is c.store_session-in-ResetAsked.ensures
 
 pub returns-in-Refused : goal.returns-in-Refused
 returns-in-Refused c =

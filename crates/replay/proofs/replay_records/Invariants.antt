@@ -8,7 +8,9 @@ use Rattle.replay.proofs.Laws.{bench_of, Left}
 use Rattle.replay.proofs.replay_records.Given as goal
 
 abbrev pub invariant-loop-left : goal.invariant-loop-left
-invariant-loop-left l = Left (Ends l.file l.place l.number l.initial.answers (bench_of l.initial.memory l.initial.session l.initial.tag l.initial.reader l.initial.packet l.initial.reply)) l.file l.count l.at l.left l.answers
+invariant-loop-left l =
+    Left (Ends l.file l.place l.number l.initial.answers (bench_of l.initial.memory l.initial.session l.initial.tag l.initial.reader l.initial.packet
+    l.initial.reply)) l.file l.count l.at l.left l.answers
     (bench_of l.memory l.session l.tag l.reader l.packet l.reply)
     × (length l.memory ≡ length l.initial.memory)
     × (length l.packet ≡ length l.initial.packet)

@@ -70,7 +70,8 @@ returns-in-Append c =
     let a = c.args in
     let appended = c.append.ensures a.tag.now a.upload.off in
     appended
-    ∙ ap (λ (x : List ℕ). done a.slot (Act.append a.upload.off x) (before (goal.at.returns-in-Append c).Start)) (part_cut a.source.now a.upload.start a.upload.size)
+    ∙ ap (λ (x : List ℕ). done a.slot (Act.append a.upload.off x) (before (goal.at.returns-in-Append c).Start))
+    (part_cut a.source.now a.upload.start a.upload.size)
     ∙ sym (ap (after (goal.at.returns-in-Append c).Start) c.in-Append.is)
 
 pub returns-in-Start : goal.returns-in-Start
@@ -81,6 +82,8 @@ returns-in-Start c =
     let sha = a.upload.sha in
     c.start.ensures (before (goal.at.returns-in-Start c).Start) c.kept_tag.result refl
     ∙ ap (begun (goal.at.returns-in-Start c).Start c.in-Start.length c.is_there-tagged.result c.kept_tag.result) cut
-    ∙ ap (λ (t : List ℕ). begun (goal.at.returns-in-Start c).Start c.in-Start.length c.is_there-tagged.result t (data_in a.source.now a.upload)) c.kept_tag.ensures
-    ∙ ap (λ (t : Bool). begun (goal.at.returns-in-Start c).Start c.in-Start.length t (tag_kept a.source.now sha) (data_in a.source.now a.upload)) c.is_there-tagged.ensures
+    ∙ ap (λ (t : List ℕ). begun (goal.at.returns-in-Start c).Start c.in-Start.length c.is_there-tagged.result t (data_in a.source.now a.upload))
+    c.kept_tag.ensures
+    ∙ ap (λ (t : Bool). begun (goal.at.returns-in-Start c).Start c.in-Start.length t (tag_kept a.source.now sha) (data_in a.source.now a.upload))
+    c.is_there-tagged.ensures
     ∙ sym (ap (after (goal.at.returns-in-Start c).Start) c.in-Start.is)

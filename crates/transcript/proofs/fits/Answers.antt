@@ -13,7 +13,8 @@ use Rattle.transcript.proofs.fits.Goals as goal
 pub returns-then-room-last : goal.returns-then-room-last
 returns-then-room-last c =
     let a = c.args in
-    sym (lt-leb (length (transcript a.answers.now a.count a.session)) a.room (omega (arith, c.end_len-last.ensures.0, text_length_lem a.answers.now a.count a.session)))
+    sym (lt-leb (length (transcript a.answers.now a.count a.session)) a.room
+    (omega (arith, c.end_len-last.ensures.0, text_length_lem a.answers.now a.count a.session)))
 
 pub returns-then-left-len : goal.returns-then-left-len
 returns-then-left-len c =

@@ -31,7 +31,8 @@ loop-k-preserved c =
     let l = c.loop-k in
     let a = c.args in
     let next = rest_length a.answers.now a.count a.session l.k c.loop-k-test.true in (
-      rest_written a.answers.now a.count a.session l.k c.loop-k-test.true (omega (arith, c.requires.session_in_bounds, l.invariant.1, l.invariant.2, next)) c.put_line-at.ensures
+      rest_written a.answers.now a.count a.session l.k c.loop-k-test.true
+          (omega (arith, c.requires.session_in_bounds, l.invariant.1, l.invariant.2, next)) c.put_line-at.ensures
           ∙ l.invariant.0,
       omega (arith, c.put_line-at.ensures.place, l.invariant.1, next),
       omega arith,
