@@ -166,7 +166,8 @@ fn session(rng: &mut Rng) -> Vec<Record> {
         };
         for packet in packets {
             let mut sent = match rng.below(8) {
-                _ if packet.len() < 8 => continue,
+                // A packet that no sender takes.
+                _ if !(8..=65_533).contains(&packet.len()) => continue,
                 0 if packet.len() < 60 => lines::cut(rng, &packet),
                 _ => lines::sent(&packet),
             };
