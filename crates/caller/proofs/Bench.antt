@@ -11,8 +11,7 @@ use lib.Seq.{get_or-append-add}
 use Rattle.laws.proofs.Choice.{pick_yes, pick_no}
 use Rattle.laws.proofs.Lists.{pasted_start}
 use Rattle.recording.specs.Recording.{Entry}
-use Rattle.feed.specs.declared.Answer.{Answer}
-use Rattle.feed.specs.Feed.{Bench, feed_line_def}
+use Rattle.feed.specs.Feed.{Bench, Answer, feed_line_def}
 use Rattle.replay.specs.Replay.{saying, fed, numbers, all_numbers, Replayed, fresh, ending}
 use Rattle.replay.proofs.Laws.{replayed_all}
 use Rattle.transcript.specs.Transcript.{line_text, line_of, lines_from, end_text, transcript}

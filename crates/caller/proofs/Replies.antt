@@ -2,7 +2,7 @@
 -- Assumes nothing.
 use mathlib.Core.Path.{◌≡◌, refl}
 use mathlib.Core.List.{List}
-use mathlib.Core.Option.{Option, none, some}
+use Rattle.std.specs.Prelude.{Option, Some, None}
 use Prim.Native.Nat.{ℕ, ◌+◌, ◌≤◌, ◌<◌}
 use native.Mathlib.Omega.{arith}
 use lib.Dec.{lit<}
@@ -10,7 +10,8 @@ use lib.ListN.{length, get_or}
 use Rattle.laws.proofs.Choice.{pick_case}
 use Rattle.fields.specs.declared.Kind.{Kind}
 use Rattle.fields.specs.declared.Key.{Key}
-use Rattle.fields.specs.Fields.{index_of, number_in_def, run_in_def}
+use Rattle.fields.specs.declared.Fields.{Fields}
+use Rattle.fields.specs.Fields.{number_in_def, run_in_def}
 use Rattle.map.specs.Walk.{map_from_def}
 use Rattle.map.proofs.Sound.{map_run}
 use Rattle.rules.specs.Plan.{above, largest}
@@ -26,18 +27,18 @@ Sound p (reply r) = run_start_def r.text + run_length_def r.text ≤ length p
 Sound p (refused n) = 0 < n
 
 -- a map's values
-of_values : (p f : List ℕ) → map_from_def Kind.Reply p 8 ≡ some f → Sound p (values_of p f)
-unfolding values_of index_of
+of_values : (p : List ℕ) (f : Fields) → map_from_def Kind.Reply p 8 ≡ Some f → Sound p (values_of p f)
+unfolding values_of
 of_values p f e =
     pick_case (Sound p) (above largest (number_in_def f Key.Rc)) _ _ (λ g. lit< tt)
     (λ g. pick_case (Sound p) (above largest (number_in_def f Key.Off)) _ _ (λ h. lit< tt)
-    (λ h. run_inside p (run_in_def f Key.Text) (map_run Kind.Reply p 8 f e Key.Text (lit< tt))))
+    (λ h. run_inside p (run_in_def f Key.Text) (map_run Kind.Reply p 8 f e Key.Text)))
 
 -- a map
-of_map : (p : List ℕ) (w : Option (List ℕ)) → map_from_def Kind.Reply p 8 ≡ w → Sound p (map_read p w)
+of_map : (p : List ℕ) (w : Option Fields) → map_from_def Kind.Reply p 8 ≡ w → Sound p (map_read p w)
 unfolding map_read
-of_map p none e = lit< tt
-of_map p (some f) e = of_values p f e
+of_map p None e = lit< tt
+of_map p (Some f) e = of_values p f e
 
 -- a packet
 of_packet : (p : List ℕ) → Sound p (read_reply_def p)

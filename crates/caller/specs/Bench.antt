@@ -6,8 +6,7 @@ use Rattle.std.proofs.Math.Option.{some}
 use Rattle.laws.specs.Choice.{pick}
 use Rattle.session.specs.declared.Session.{Session}
 use Rattle.recording.specs.Recording.{Entry, records_of}
-use Rattle.feed.specs.declared.Answer.{Answer}
-use Rattle.feed.specs.Feed.{Bench}
+use Rattle.feed.specs.Feed.{Bench, Answer}
 use Rattle.replay.specs.Replay.{fed, fresh, replayed}
 use Rattle.transcript.specs.Transcript.{line_text, end_text, transcript}
 

@@ -9,16 +9,17 @@ use native.Mathlib.Omega.{arith}
 use lib.Dec.{ltb, eqb, lit<}
 use lib.ListN.{length, get_or, take, drop, length-append}
 use lib.Seq.{get_or-append_seam, take-append_seam, drop_at}
-use borrow.Author.Tests.{le-ltb, lt-ltb, eq-eqb, ne_eqb, ltb-true, ltb-false, not-false}
+use borrow.Author.Tests.{le-ltb, lt-ltb, ne_eqb, ltb-true, ltb-false, not-false}
+use Rattle.std.specs.Prelude.{Option, Some, None}
 use Rattle.laws.specs.Choice.{pick}
 use Rattle.laws.proofs.Choice.{pick_yes, pick_no, pick_case}
 use Rattle.cbor.specs.declared.Value.{Value}
-use Rattle.cbor.specs.declared.Value.TheVariants.{Unsigned, Negative, Flag, Null}
+use Rattle.cbor.specs.declared.Value.TheVariants.{Unsigned}
 use Rattle.cbor.specs.declared.Head.{Head}
 use Rattle.cbor.specs.declared.Item.{Item}
 use Rattle.cbor.specs.Read.{be_after, width_of, head_after, head_at_def, string_from_def, value_after_def, item_at}
 use Rattle.cbor.specs.Write.{be_bytes, head_of, head_len_def, HeadLong, bytes_of, text_of}
-use Rattle.cbor.specs.Inner.{Inside, HeadWithin, ItemWithin}
+use Rattle.cbor.specs.Inner.{head_is, item_is, run_is, Inside, HeadWithin, ItemWithin}
 use Rattle.cbor.proofs.Numbers.{bytes_length, number_back}
 
 -- an initial byte of 24 and k more says a width of 2 to the k
@@ -29,131 +30,47 @@ width_is info k h = ap (λ (x : ℕ). 2 ^ x) (drop-24 info k h)
     drop-24 : (info k : ℕ) → info ≡ 24 + k → info - 24 ≡ k
     drop-24 info k h = omega arith
 
--- past the end there is no head
-pub head_past : (s : List ℕ) (at : ℕ) → length s ≤ at → head_at_def s at ≡ Head.Malformed
-unfolding head_at_def
-head_past s at h = simp (le-ltb _ _ h, pick_no)
-
 -- within the bytes a head goes by its initial byte
 pub head_there : (s : List ℕ) (at : ℕ) → at < length s → head_at_def s at ≡ head_after s (get_or s at 0) (at + 1)
 unfolding head_at_def
 head_there s at h = simp (lt-ltb _ _ h, pick_yes)
 
 -- a head whose argument is in the initial byte
-pub head_small : (s : List ℕ) (b at : ℕ) → b % 32 < 24 → head_after s b at ≡ Head.Is (b / 32) (b % 32) at
+pub head_small : (s : List ℕ) (b at : ℕ) → b % 32 < 24 → head_after s b at ≡ head_is (b / 32) (b % 32) at
 unfolding head_after
 head_small s b at h = simp (lt-ltb _ _ h, pick_yes)
 
--- five low bits above 27 begin no head
-pub head_none : (s : List ℕ) (b at : ℕ) → 27 < b % 32 → head_after s b at ≡ Head.Malformed
-unfolding head_after
-head_none s b at h =
-    let k : 24 ≤ b % 32 = omega arith in
-    simp (le-ltb _ _ k, lt-ltb _ _ h, pick_yes, pick_no)
-
--- a head whose argument is cut short
-pub head_cut : (s : List ℕ) (b at : ℕ) → 24 ≤ b % 32 → b % 32 ≤ 27 → length s - at < width_of (b % 32) → head_after s b at ≡ Head.Malformed
-unfolding head_after
-head_cut s b at h k l = simp (le-ltb _ _ h, le-ltb _ _ k, lt-ltb _ _ l, pick_yes, pick_no)
-
 -- a head whose argument is there
 pub head_whole : (s : List ℕ) (b at : ℕ) → 24 ≤ b % 32 → b % 32 ≤ 27 → width_of (b % 32) ≤ length s - at → head_after s b at
-    ≡ Head.Is (b / 32) (be_after 0 (take (width_of (b % 32)) (drop at s))) (at + width_of (b % 32))
+    ≡ head_is (b / 32) (be_after 0 (take (width_of (b % 32)) (drop at s))) (at + width_of (b % 32))
 unfolding head_after
 head_whole s b at h k l = simp (le-ltb _ _ h, le-ltb _ _ k, le-ltb _ _ l, pick_no)
 
--- a string that is cut short
-pub string_cut : (s : List ℕ) (v : Value) (n at : ℕ) → length s - at < n → string_from_def s v n at ≡ Item.Malformed
-unfolding string_from_def
-string_cut s v n at h = simp (lt-ltb _ _ h, pick_yes)
-
 -- a string that is there
-pub string_whole : (s : List ℕ) (v : Value) (n at : ℕ) → n ≤ length s - at → string_from_def s v n at ≡ Item.Is v (at + n)
+pub string_whole : (s : List ℕ) (v : Value) (n at : ℕ) → n ≤ length s - at → string_from_def s v n at ≡ item_is v (at + n)
 unfolding string_from_def
 string_whole s v n at h = simp (le-ltb _ _ h, pick_no)
 
 -- major type 0 is an unsigned number
-pub value_unsigned : (s : List ℕ) (n at : ℕ) → value_after_def s (Head.Is 0 n at) ≡ Item.Is (Unsigned n) at
+pub value_unsigned : (s : List ℕ) (n at : ℕ) → value_after_def s (head_is 0 n at) ≡ item_is (Unsigned n) at
 unfolding value_after_def pick
 value_unsigned s n at = refl
 
--- major type 1 is a negative number
-pub value_negative : (s : List ℕ) (n at : ℕ) → value_after_def s (Head.Is 1 n at) ≡ Item.Is (Negative n) at
-unfolding value_after_def pick
-value_negative s n at = refl
-
 -- major type 2 is a string of bytes
-pub value_bytes : (s : List ℕ) (n at : ℕ) → value_after_def s (Head.Is 2 n at) ≡ string_from_def s (Value.Bytes at n) n at
+pub value_bytes : (s : List ℕ) (n at : ℕ) → value_after_def s (head_is 2 n at) ≡ string_from_def s (Value.Bytes (run_is at n)) n at
 unfolding value_after_def pick
 value_bytes s n at = refl
 
 -- major type 3 is a text
-pub value_text : (s : List ℕ) (n at : ℕ) → value_after_def s (Head.Is 3 n at) ≡ string_from_def s (Value.Text at n) n at
+pub value_text : (s : List ℕ) (n at : ℕ) → value_after_def s (head_is 3 n at) ≡ string_from_def s (Value.Text (run_is at n)) n at
 unfolding value_after_def pick
 value_text s n at = refl
-
--- any other major type is malformed
-pub value_other : (s : List ℕ) (major n at : ℕ) → (major ≡ 0 → ⊥) → (major ≡ 1 → ⊥) → (major ≡ 2 → ⊥) → (major ≡ 3 → ⊥)
-    → value_after_def s (Head.Is major n at) ≡ Item.Malformed
-unfolding value_after_def
-value_other s major n at a b c d = simp (ne_eqb _ _ a, ne_eqb _ _ b, ne_eqb _ _ c, ne_eqb _ _ d, pick_no)
-
--- no head, no value
-pub value_none : (s : List ℕ) → value_after_def s Head.Malformed ≡ Item.Malformed
-unfolding value_after_def
-value_none s = refl
-
--- a head of major type 7 begins no value
-value_high : (s : List ℕ) (b at : ℕ) → 0xDF < b → value_after_def s (head_after s b at) ≡ Item.Malformed
-unfolding head_after
-value_high s b at h =
-    let P : Head → Type 0 = λ x. value_after_def s x ≡ Item.Malformed in
-    let other : (n next : ℕ) → value_after_def s (Head.Is (b / 32) n next) ≡ Item.Malformed =
-    λ n next. value_other s (b / 32) n next (omega arith) (omega arith) (omega arith) (omega arith) in
-    pick_case P (ltb (b % 32) 24) _ _
-    (λ i. other _ _)
-    (λ i. pick_case P (ltb 27 (b % 32)) _ _
-    (λ j. value_none s)
-    (λ j. pick_case P (ltb (length s - at) (width_of (b % 32))) _ _
-    (λ k. value_none s)
-    (λ k. other _ _)))
-
--- past the end there is no item
-pub item_past : (s : List ℕ) (at : ℕ) → length s ≤ at → item_at s at ≡ Item.Malformed
-unfolding item_at
-item_past s at h = simp (le-ltb _ _ h, pick_yes)
-
--- the byte F4 is false
-pub item_false : (s : List ℕ) (at : ℕ) → at < length s → get_or s at 0 ≡ 0xF4 → item_at s at ≡ Item.Is (Flag false) (at + 1)
-unfolding item_at
-item_false s at h e = simp (lt-ltb _ _ h, eq-eqb _ _ e, pick_yes, pick_no)
-
--- the byte F5 is true
-pub item_true : (s : List ℕ) (at : ℕ) → at < length s → get_or s at 0 ≡ 0xF5 → item_at s at ≡ Item.Is (Flag true) (at + 1)
-unfolding item_at
-item_true s at h e =
-    let a : get_or s at 0 ≡ 0xF4 → ⊥ = omega arith in
-    simp (lt-ltb _ _ h, ne_eqb _ _ a, eq-eqb _ _ e, pick_yes, pick_no)
-
--- the byte F6 is null
-pub item_null : (s : List ℕ) (at : ℕ) → at < length s → get_or s at 0 ≡ 0xF6 → item_at s at ≡ Item.Is Null (at + 1)
-unfolding item_at
-item_null s at h e =
-    let a : get_or s at 0 ≡ 0xF4 → ⊥ = omega arith in
-    let b : get_or s at 0 ≡ 0xF5 → ⊥ = omega arith in
-    simp (lt-ltb _ _ h, ne_eqb _ _ a, ne_eqb _ _ b, eq-eqb _ _ e, pick_yes, pick_no)
 
 -- any other item goes by its head
 pub item_head : (s : List ℕ) (at : ℕ) → at < length s → (get_or s at 0 ≡ 0xF4 → ⊥) → (get_or s at 0 ≡ 0xF5 → ⊥) → (get_or s at 0 ≡ 0xF6 → ⊥)
     → item_at s at ≡ value_after_def s (head_at_def s at)
 unfolding item_at
 item_head s at h a b c = simp (lt-ltb _ _ h, ne_eqb _ _ a, ne_eqb _ _ b, ne_eqb _ _ c, pick_no)
-
--- of major type 7 there are no other items
-pub item_high : (s : List ℕ) (at : ℕ) → at < length s → 0xDF < get_or s at 0 → (get_or s at 0 ≡ 0xF4 → ⊥) → (get_or s at 0 ≡ 0xF5 → ⊥)
-    → (get_or s at 0 ≡ 0xF6 → ⊥) → item_at s at ≡ Item.Malformed
-item_high s at h k a b c =
-    item_head s at h a b c ∙ ap (λ (x : Head). value_after_def s x) (head_there s at h) ∙ value_high s (get_or s at 0) (at + 1) k
 
 -- the five low bits of a shortest head's initial byte
 unfoldable pub info_of : ℕ → ℕ
@@ -323,15 +240,15 @@ byte_there pre rest b =
     ∙ ap (λ (x : ℕ). head_after (pre ++ (b ∷ rest)) x (length pre + 1)) (get_or-append_seam pre b rest 0)
 
 -- an argument in the initial byte is read back
-tiny_back : (s : List ℕ) (m n at : ℕ) → n < 24 → head_after s (m * 32 + n) at ≡ Head.Is m n at
+tiny_back : (s : List ℕ) (m n at : ℕ) → n < 24 → head_after s (m * 32 + n) at ≡ head_is m n at
 tiny_back s m n at h =
     let low : (m * 32 + n) % 32 ≡ n = omega arith in
     let high : (m * 32 + n) / 32 ≡ m = omega arith in
-    head_small s (m * 32 + n) at (omega arith) ∙ ap₂ (λ (x y : ℕ). Head.Is x y at) high low
+    head_small s (m * 32 + n) at (omega arith) ∙ ap₂ (λ (x y : ℕ). head_is x y at) high low
 
 -- an argument in the bytes x after the initial byte is read back
 wide_back : (front x post : List ℕ) (m k : ℕ) → k < 4 → length x ≡ 2 ^ k → head_after (front ++ (x ++ post)) (m * 32 + (24 + k)) (length front)
-    ≡ Head.Is m (be_after 0 x) (length front + length x)
+    ≡ head_is m (be_after 0 x) (length front + length x)
 wide_back front x post m k h e =
     let b : ℕ = m * 32 + (24 + k) in
     let s : List ℕ = front ++ (x ++ post) in
@@ -341,12 +258,12 @@ wide_back front x post m k h e =
     let all : length s ≡ length front + (length x + length post) = simp length-append in
     let taken : take (length x) (drop (length front) s) ≡ x = rw (drop_at front (x ++ post) (length front) refl) (take-append_seam x post) in
     head_whole s b (length front) (omega arith) (omega arith) (omega arith)
-    ∙ ap₂ (λ (p w : ℕ). Head.Is p (be_after 0 (take w (drop (length front) s))) (length front + w)) high width
-    ∙ ap (λ (l : List ℕ). Head.Is m (be_after 0 l) (length front + length x)) taken
+    ∙ ap₂ (λ (p w : ℕ). head_is p (be_after 0 (take w (drop (length front) s))) (length front + w)) high width
+    ∙ ap (λ (l : List ℕ). head_is m (be_after 0 l) (length front + length x)) taken
 
 -- an initial byte and the bytes x after it are read back
 wide_head : (pre x post : List ℕ) (m k : ℕ) → k < 4 → length x ≡ 2 ^ k → head_at_def (pre ++ (((m * 32 + (24 + k)) ∷ x) ++ post)) (length pre)
-    ≡ Head.Is m (be_after 0 x) (length pre + suc (length x))
+    ≡ head_is m (be_after 0 x) (length pre + suc (length x))
 wide_head pre x post m k h e =
     let b : ℕ = m * 32 + (24 + k) in
     let front : List ℕ = pre ++ (b ∷ []) in
@@ -356,43 +273,44 @@ wide_head pre x post m k h e =
     byte_there pre (x ++ post) b
     ∙ ap₂ (λ (l : List ℕ) (n : ℕ). head_after l b n) (sym parts) (sym size)
     ∙ wide_back front x post m k h e
-    ∙ ap (λ (n : ℕ). Head.Is m (be_after 0 x) n) end
+    ∙ ap (λ (n : ℕ). head_is m (be_after 0 x) n) end
 
 -- a shortest head of each form is read back
-by_form : (pre post : List ℕ) (m n : ℕ) → Form n → head_at_def (pre ++ (head_of m n ++ post)) (length pre) ≡ Head.Is m n (length pre + length (head_of m n))
+by_form : (pre post : List ℕ) (m n : ℕ) → Form n → head_at_def (pre ++ (head_of m n ++ post)) (length pre) ≡ head_is m n (length pre + length (head_of m n))
 unfolding be_bytes
 by_form pre post m n (tiny a e) = rw (head_as m n n 0 e) (byte_there pre post (m * 32 + n) ∙ tiny_back (pre ++ ((m * 32 + n) ∷ post)) m n (length pre + 1) a)
 by_form pre post m n (wide k a fits e) =
     rw (head_as m n (24 + k) (2 ^ k) e)
     (wide_head pre (be_bytes (2 ^ k) n) post m k a (bytes_length (2 ^ k) n)
-    ∙ ap (λ (x : ℕ). Head.Is m x (length pre + suc (length (be_bytes (2 ^ k) n)))) (number_back (2 ^ k) n fits))
+    ∙ ap (λ (x : ℕ). head_is m x (length pre + suc (length (be_bytes (2 ^ k) n)))) (number_back (2 ^ k) n fits))
 
 -- what is written is read back: the shortest head
 pub head_back : (pre post : List ℕ) (m n : ℕ) → m < 8 → n < 2 ^ 64 → head_at_def (pre ++ (head_of m n ++ post)) (length pre)
-    ≡ Head.Is m n (length pre + length (head_of m n))
+    ≡ head_is m n (length pre + length (head_of m n))
 head_back pre post m n h k = by_form pre post m n (form n k)
 
 -- an item whose head was written with a major type below 4 goes by that head
 item_by_head : (pre post : List ℕ) (m n : ℕ) → m < 4 → n < 2 ^ 64 → item_at (pre ++ (head_of m n ++ post)) (length pre)
-    ≡ value_after_def (pre ++ (head_of m n ++ post)) (Head.Is m n (length pre + length (head_of m n)))
+    ≡ value_after_def (pre ++ (head_of m n ++ post)) (head_is m n (length pre + length (head_of m n)))
 item_by_head pre post m n h k =
     let s : List ℕ = pre ++ (head_of m n ++ post) in
     let most : info_of n ≤ 27 = info_most n (form n k) in
-    let first : get_or s (length pre) 0 ≡ m * 32 + info_of n = rw (head_form m n) (get_or-append_seam pre (m * 32 + info_of n) (be_bytes (size_of n) n ++ post) 0) in
+    let first : get_or s (length pre) 0 ≡ m * 32 + info_of n =
+    rw (head_form m n) (get_or-append_seam pre (m * 32 + info_of n) (be_bytes (size_of n) n ++ post) 0) in
     let there : length pre < length s = simp (length-append, head_size) (omega arith) in
     item_head s (length pre) there (omega arith) (omega arith) (omega arith)
-    ∙ ap (λ (x : Head). value_after_def s x) (head_back pre post m n (omega arith) k)
+    ∙ ap (λ (x : Option Head). value_after_def s x) (head_back pre post m n (omega arith) k)
 
 -- what is written is read back: an unsigned number
 pub unsigned_back : (pre post : List ℕ) (n : ℕ) → n < 2 ^ 64 → item_at (pre ++ (head_of 0 n ++ post)) (length pre)
-    ≡ Item.Is (Unsigned n) (length pre + length (head_of 0 n))
+    ≡ item_is (Unsigned n) (length pre + length (head_of 0 n))
 unsigned_back pre post n h = item_by_head pre post 0 n (lit< tt) h ∙ value_unsigned (pre ++ (head_of 0 n ++ post)) n (length pre + length (head_of 0 n))
 
 -- a string under its head is read back as the value that the head says
 string_back : (pre x post : List ℕ) (m : ℕ) (v : Value) → m < 4 → length x < 2 ^ 64 → value_after_def (pre ++ (head_of m (length x) ++ (x ++ post)))
-    (Head.Is m (length x) (length pre + length (head_of m (length x)))) ≡ string_from_def (pre ++ (head_of m (length x) ++ (x ++ post))) v (length x)
+    (head_is m (length x) (length pre + length (head_of m (length x)))) ≡ string_from_def (pre ++ (head_of m (length x) ++ (x ++ post))) v (length x)
     (length pre + length (head_of m (length x))) → item_at (pre ++ ((head_of m (length x) ++ x) ++ post)) (length pre)
-    ≡ Item.Is v (length pre + length (head_of m (length x) ++ x))
+    ≡ item_is v (length pre + length (head_of m (length x) ++ x))
 string_back pre x post m v h k e =
     let head : List ℕ = head_of m (length x) in
     let s : List ℕ = pre ++ (head ++ (x ++ post)) in
@@ -402,27 +320,27 @@ string_back pre x post m v h k e =
     ∙ item_by_head pre (x ++ post) m (length x) h k
     ∙ e
     ∙ string_whole s v (length x) (length pre + length head) (omega arith)
-    ∙ ap (λ (n : ℕ). Item.Is v n) end
+    ∙ ap (λ (n : ℕ). item_is v n) end
 
 -- what is written is read back: a string of bytes
 pub bytes_back : (pre x post : List ℕ) → length x < 2 ^ 64 → item_at (pre ++ (bytes_of x ++ post)) (length pre)
-    ≡ Item.Is (Value.Bytes (length pre + length (head_of 2 (length x))) (length x)) (length pre + length (bytes_of x))
+    ≡ item_is (Value.Bytes (run_is (length pre + length (head_of 2 (length x))) (length x))) (length pre + length (bytes_of x))
 bytes_back pre x post h =
-    string_back pre x post 2 (Value.Bytes (length pre + length (head_of 2 (length x))) (length x)) (lit< tt) h
+    string_back pre x post 2 (Value.Bytes (run_is (length pre + length (head_of 2 (length x))) (length x))) (lit< tt) h
     (value_bytes (pre ++ (head_of 2 (length x) ++ (x ++ post))) (length x) (length pre + length (head_of 2 (length x))))
 
 -- what is written is read back: a text
 pub text_back : (pre x post : List ℕ) → length x < 2 ^ 64 → item_at (pre ++ (text_of x ++ post)) (length pre)
-    ≡ Item.Is (Value.Text (length pre + length (head_of 3 (length x))) (length x)) (length pre + length (text_of x))
+    ≡ item_is (Value.Text (run_is (length pre + length (head_of 3 (length x))) (length x))) (length pre + length (text_of x))
 text_back pre x post h =
-    string_back pre x post 3 (Value.Text (length pre + length (head_of 3 (length x))) (length x)) (lit< tt) h
+    string_back pre x post 3 (Value.Text (run_is (length pre + length (head_of 3 (length x))) (length x))) (lit< tt) h
     (value_text (pre ++ (head_of 3 (length x) ++ (x ++ post))) (length x) (length pre + length (head_of 3 (length x))))
 
 -- a head at a place ends after it and within the bytes
 pub head_within : (s : List ℕ) (at : ℕ) → HeadWithin s at (head_at_def s at)
 unfolding head_at_def head_after
 head_within s at =
-    let P : Head → Type 0 = λ h. HeadWithin s at h in
+    let P : Option Head → Type 0 = λ h. HeadWithin s at h in
     let b : ℕ = get_or s at 0 in
     pick_case P (ltb at (length s)) _ _
     (λ h. pick_case P (ltb (b % 32) 24) _ _
@@ -435,8 +353,8 @@ head_within s at =
     (λ h. tt)
 
 -- so does a head that was read
-pub head_place : (s : List ℕ) (at m n next : ℕ) → head_at_def s at ≡ Head.Is m n next → (at < next) × (next ≤ length s)
-head_place s at m n next e = rw e at (head_within s at)
+pub head_place : (s : List ℕ) (at : ℕ) (h : Head) → head_at_def s at ≡ Some h → (at < h.next) × (h.next ≤ length s)
+head_place s at h e = rw e at (head_within s at)
 
 -- a string that was read lies within the bytes
 string_within : (s : List ℕ) (from at n : ℕ) (v : Value) → from < at → at ≤ length s → (n ≤ length s - at → Inside s v)
@@ -448,28 +366,30 @@ string_within s from at n v h k inside =
     (λ i. (omega arith, omega (arith, ltb-false (length s - at) n i), inside (ltb-false (length s - at) n i)))
 
 -- a value after a head within the bytes is within them
-value_within : (s : List ℕ) (from : ℕ) (h : Head) → HeadWithin s from h → ItemWithin s from (value_after_def s h)
+value_within : (s : List ℕ) (from : ℕ) (h : Option Head) → HeadWithin s from h → ItemWithin s from (value_after_def s h)
 unfolding value_after_def
-value_within s from Head.Malformed w = tt
-value_within s from (Head.Is major n at) w =
-    let P : Item → Type 0 = λ i. ItemWithin s from i in
+value_within s from None w = tt
+value_within s from (Some h) w =
+    let n : ℕ = h.argument in
+    let at : ℕ = h.next in
+    let P : Option Item → Type 0 = λ i. ItemWithin s from i in
     let later : from < at = w.0 in
     let fits : at ≤ length s = w.1 in
-    pick_case P (eqb major 0) _ _
+    pick_case P (eqb h.major 0) _ _
     (λ i. (later, fits, tt))
-    (λ i. pick_case P (eqb major 1) _ _
+    (λ i. pick_case P (eqb h.major 1) _ _
     (λ j. (later, fits, tt))
-    (λ j. pick_case P (eqb major 2) _ _
-    (λ k. string_within s from at n (Value.Bytes at n) later fits (λ l. omega arith))
-    (λ k. pick_case P (eqb major 3) _ _
-    (λ l. string_within s from at n (Value.Text at n) later fits (λ l. omega arith))
+    (λ j. pick_case P (eqb h.major 2) _ _
+    (λ k. string_within s from at n (Value.Bytes (run_is at n)) later fits (λ l. omega arith))
+    (λ k. pick_case P (eqb h.major 3) _ _
+    (λ l. string_within s from at n (Value.Text (run_is at n)) later fits (λ l. omega arith))
     (λ l. tt))))
 
 -- an item at a place ends after it and within the bytes, and so does its string
 pub item_within : (s : List ℕ) (at : ℕ) → ItemWithin s at (item_at s at)
 unfolding item_at
 item_within s at =
-    let P : Item → Type 0 = λ i. ItemWithin s at i in
+    let P : Option Item → Type 0 = λ i. ItemWithin s at i in
     let b : ℕ = get_or s at 0 in
     pick_case P (not (ltb at (length s))) _ _
     (λ h. tt)

@@ -10,6 +10,7 @@ use native.Mathlib.Omega.{arith}
 use lib.Dec.{ltb, eqb, lit<}
 use lib.ListN.{length, get_or, take, drop, length-take, length-drop}
 use borrow.Author.Tests.{ltb-true, ltb-false}
+use Rattle.std.specs.Prelude.{Option, Some, None}
 use Rattle.laws.specs.Bytes.{Bytes}
 use Rattle.laws.proofs.Choice.{pick_case}
 use Rattle.laws.proofs.Lists.{bytes_tail, bytes_take, bytes_drop}
@@ -18,7 +19,7 @@ use Rattle.cbor.specs.declared.Head.{Head}
 use Rattle.cbor.specs.declared.Item.{Item}
 use Rattle.cbor.specs.Read.{be_after, width_of, head_after, head_at_def, string_from_def, value_after_def, item_at}
 use Rattle.cbor.specs.Write.{head_len_def}
-use Rattle.cbor.specs.Inner.{HeadLeast, StringLeast, ItemLeast}
+use Rattle.cbor.specs.Inner.{run_is, HeadLeast, StringLeast, ItemLeast}
 use Rattle.cbor.proofs.Numbers.{byte_more}
 use Rattle.cbor.proofs.Laws.{width_is, len_tiny, len_one, len_two, len_four, len_most}
 
@@ -54,7 +55,7 @@ len_wide info n a b h =
 pub head_least : (s : List ℕ) (at : ℕ) → Bytes s → HeadLeast at (head_at_def s at)
 unfolding head_at_def head_after
 head_least s at b =
-    let P : Head → Type 0 = HeadLeast at in
+    let P : Option Head → Type 0 = HeadLeast at in
     let info : ℕ = get_or s at 0 % 32 in
     pick_case P (ltb at (length s)) _ _
     (λ h. pick_case P (ltb info 24) _ _
@@ -76,21 +77,21 @@ unfolding string_from_def
 string_least s from n at v h = pick_case (ItemLeast from) (ltb (length s - at) n) _ _ (λ i. tt) (λ i. h)
 
 -- a value after such a head
-value_least : (s : List ℕ) (from : ℕ) (h : Head) → HeadLeast from h → ItemLeast from (value_after_def s h)
+value_least : (s : List ℕ) (from : ℕ) (h : Option Head) → HeadLeast from h → ItemLeast from (value_after_def s h)
 unfolding value_after_def
-value_least s from Head.Malformed w = tt
-value_least s from (Head.Is major n at) w =
-    let P : Item → Type 0 = ItemLeast from in
-    pick_case P (eqb major 0) _ _ (λ i. tt)
-    (λ i. pick_case P (eqb major 1) _ _ (λ j. tt)
-    (λ j. pick_case P (eqb major 2) _ _ (λ k. string_least s from n at (Value.Bytes at n) w)
-    (λ k. pick_case P (eqb major 3) _ _ (λ l. string_least s from n at (Value.Text at n) w) (λ l. tt))))
+value_least s from None w = tt
+value_least s from (Some h) w =
+    let P : Option Item → Type 0 = ItemLeast from in
+    pick_case P (eqb h.major 0) _ _ (λ i. tt)
+    (λ i. pick_case P (eqb h.major 1) _ _ (λ j. tt)
+    (λ j. pick_case P (eqb h.major 2) _ _ (λ k. string_least s from h.argument h.next (Value.Bytes (run_is h.next h.argument)) w)
+    (λ k. pick_case P (eqb h.major 3) _ _ (λ l. string_least s from h.argument h.next (Value.Text (run_is h.next h.argument)) w) (λ l. tt))))
 
 -- a string that was read stands behind a head no shorter than the shortest
 pub item_least : (s : List ℕ) (at : ℕ) → Bytes s → ItemLeast at (item_at s at)
 unfolding item_at
 item_least s at b =
-    let P : Item → Type 0 = ItemLeast at in
+    let P : Option Item → Type 0 = ItemLeast at in
     pick_case P (not (ltb at (length s))) _ _ (λ h. tt)
     (λ h. pick_case P (eqb (get_or s at 0) 0xF4) _ _ (λ i. tt)
     (λ i. pick_case P (eqb (get_or s at 0) 0xF5) _ _ (λ j. tt)

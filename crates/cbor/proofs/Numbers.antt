@@ -1,8 +1,8 @@
 -- Numbers in bytes, the high one first: what is written is read back, a turn of the loop that reads and of the loop that writes, and
 -- the bound of what is read.
 -- Assumes nothing.
-use mathlib.Core.Path.{◌≡◌, refl, sym, ap, ap₂, ◌∙◌}
-use mathlib.Core.List.{List, ◌∷◌, ◌++◌}
+use mathlib.Core.Path.{◌≡◌, refl, sym, ap, ◌∙◌}
+use mathlib.Core.List.{List, ◌∷◌}
 use Prim.Native.Nat.{ℕ, zero, suc, ◌+◌, ◌-◌, ◌*◌, ◌/◌, ◌%◌, ◌^◌, ◌≤◌, ◌<◌}
 use native.Mathlib.Nat.{
   pow-suc,
@@ -13,22 +13,21 @@ use native.Mathlib.Nat.{
   mul_comm,
   zero-mul,
   zero-add,
+  suc-add,
   div-add-mod',
   mod-lt,
   mod-eq_of_lt,
   mul-add-mod_self_right,
-  div-div-eq-div-mul,
   mul-le-mul_right,
   mod-one,
   div-one,
 }
 use native.Mathlib.Numerals.{add-one}
+use Rattle.std.specs.Int.{w64, to_be_bytes, bytes_high_first}
 use native.Mathlib.Omega.{arith}
-use lib.ListN.{length, get_or, take, drop, set, length-take, length-append}
-use lib.Seq.{drop-cons, set_split, take-append-le, take-take, drop_at}
+use lib.ListN.{length, take, drop}
+use lib.Seq.{take_all}
 use lib.Dec.{lit<}
-use Rattle.laws.specs.Bytes.{pasted}
-use Rattle.laws.proofs.Lists.{pasted_none}
 use Rattle.cbor.specs.Read.{be_after}
 use Rattle.cbor.specs.Write.{be_bytes}
 
@@ -87,69 +86,24 @@ unfolding be_bytes
 bytes_length zero n = refl
 bytes_length (suc w) n = ap suc (bytes_length w n)
 
--- nothing left to read
-pub read_none : (n : ℕ) (s : List ℕ) (w : ℕ) → w ≡ 0 → be_after n (take w s) ≡ n
-unfolding be_after
-read_none n s w h = rw h
-
--- one byte is read
-pub read_turn : (n i w at : ℕ) (s : List ℕ) → i < w → at + w ≤ length s → be_after (n * 256 + get_or s (at + i) 0)
-    (take (w - (i + 1)) (drop (at + (i + 1)) s)) ≡ be_after n (take (w - i) (drop (at + i) s))
-unfolding be_after
-read_turn n i w at s h k =
-    let e : w - i ≡ suc (w - (i + 1)) = omega arith in
-    let next : at + (i + 1) ≡ suc (at + i) = omega arith in
-    rw (e, next, drop-cons s (at + i) 0 (omega arith))
-
--- the first byte is read
-pub read_first : (w at : ℕ) (s : List ℕ) → 1 ≤ w → at + w ≤ length s → be_after (get_or s at 0) (take (w - 1) (drop (at + 1) s))
-    ≡ be_after 0 (take w (drop at s))
-read_first w at s h k =
-    let here : at + 0 ≡ at = omega arith in
-    let all : w - 0 ≡ w = omega arith in
-    let byte : get_or s at 0 ≡ 0 * 256 + get_or s (at + 0) 0 = rw here (omega arith) in
-    ap (λ (n : ℕ). be_after n (take (w - 1) (drop (at + 1) s))) byte
-    ∙ read_turn 0 0 w at s (omega arith) k
-    ∙ ap₂ (λ (w at : ℕ). be_after 0 (take w (drop at s))) all here
-
--- a byte stored before what was written is written with it
-pub pasted_before : (m : List ℕ) (j b : ℕ) (x : List ℕ) → j + 1 + length x ≤ length m → set (pasted m (j + 1) x) j b ≡ pasted m j (b ∷ x)
-unfolding pasted
-pasted_before m j b x h =
-    let front : length (take (j + 1) m) ≡ j + 1 = simp length-take (omega arith) in
-    let rest : List ℕ = x ++ drop (j + 1 + length x) m in
-    set_split (take (j + 1) m ++ rest) j b (simp length-append (omega arith))
-    ∙ ap₂ (λ (p q : List ℕ). p ++ (b ∷ q)) (take-append-le j (take (j + 1) m) rest (omega arith) ∙ take-take j (j + 1) m (omega arith))
-    (drop_at (take (j + 1) m) rest (suc j) (omega arith))
-    ∙ ap (λ (n : ℕ). take j m ++ (b ∷ (x ++ drop n m))) (sum j x)
-  where
-    sum : (j : ℕ) (x : List ℕ) → j + 1 + length x ≡ j + suc (length x)
-    sum j x = omega arith
-
--- nothing is written yet
-pub write_none : (m : List ℕ) (at w n : ℕ) → m ≡ pasted m at (be_bytes (w - w) n)
+-- a number's lowest bytes, as the library has them
+high_first : (w n : ℕ) → bytes_high_first w n ≡ be_bytes w n
 unfolding be_bytes
-write_none m at w n =
-    let e : w - w ≡ 0 = omega arith in
-    rw e (sym (pasted_none m at))
+high_first zero n = refl
+high_first (suc zero) n = rw div-one refl
+high_first (suc (suc w)) n = ap (λ (l : List ℕ). n / 256 ^ suc w % 256 ∷ l) (high_first (suc w) n)
 
--- nothing is taken off the number yet
-pub left_none : (w n : ℕ) → n ≡ n / 256 ^ (w - w)
-left_none w n =
-    let e : w - w ≡ 0 = omega arith in
-    rw (e, div-one)
-
--- one byte is written, the one before those that are
-pub write_turn : (m : List ℕ) (at i w n : ℕ) → 0 < i → i ≤ w → at + w ≤ length m → set (pasted m (at + i) (be_bytes (w - i) n)) (at + (i - 1))
-    (n / 256 ^ (w - i) % 256) ≡ pasted m (at + (i - 1)) (be_bytes (w - (i - 1)) n)
+-- the number without its first bytes
+low_bytes : (d w n : ℕ) → drop d (be_bytes (d + w) n) ≡ be_bytes w n
 unfolding be_bytes
-write_turn m at i w n p h k =
-    let e : w - (i - 1) ≡ suc (w - i) = omega arith in
-    let next : at + i ≡ at + (i - 1) + 1 = omega arith in
-    rw (e, next, pasted_before m (at + (i - 1)) (n / 256 ^ (w - i) % 256) (be_bytes (w - i) n) (rw bytes_length (omega arith)))
+low_bytes zero w n = rw zero-add refl
+low_bytes (suc d) w n = rw suc-add (low_bytes d w n)
 
--- what is left of the number after it
-pub left_turn : (n i w : ℕ) → 0 < i → i ≤ w → n / 256 ^ (w - i) / 256 ≡ n / 256 ^ (w - (i - 1))
-left_turn n i w p h =
-    let e : w - (i - 1) ≡ suc (w - i) = omega arith in
-    rw (e, pow-suc, div-div-eq-div-mul)
+-- the last bytes of a number's eight are the number in so many
+pub last_bytes : (w n : ℕ) (bs : List ℕ) → w ≤ 8 → bs ≡ to_be_bytes w64 n → take (8 - (8 - w)) (drop (8 - w) bs) ≡ be_bytes w n
+last_bytes w n bs h eight =
+    let back : 8 - (8 - w) ≡ w = omega arith in
+    let all : 8 ≡ 8 - w + w = omega arith in
+    let low : drop (8 - w) bs ≡ be_bytes w n =
+    ap (λ (l : List ℕ). drop (8 - w) l) (eight ∙ high_first 8 n ∙ ap (λ (k : ℕ). be_bytes k n) all) ∙ low_bytes (8 - w) w n in
+    rw (back, low) (take_all w (be_bytes w n) (rw bytes_length (omega arith)))

@@ -1,7 +1,7 @@
 -- Reading CBOR out of a list of bytes, at a place. "Integer and length heads may have any width; strings are definite-length"; a value is
 -- "an integer, a byte or text string, false, true or null; anything else is malformed".
 -- Assumes nothing.
-use Rattle.std.specs.Prelude.{ℕ, ◌+◌, ◌*◌, ◌-◌, ◌/◌, ◌%◌, ◌^◌, true, false, not, List, [], ◌∷◌, ltb, eqb, length, get_or, take, drop}
+use Rattle.std.specs.Prelude.{ℕ, ◌+◌, ◌*◌, ◌-◌, ◌/◌, ◌%◌, ◌^◌, true, false, not, List, [], ◌∷◌, ltb, eqb, length, get_or, take, drop, Option, Some, None}
 use Rattle.laws.specs.Choice.{pick}
 use Rattle.cbor.specs.declared.Value.{Value}
 use Rattle.cbor.specs.declared.Value.TheVariants.{Unsigned, Negative, Bytes, Text, Flag, Null}
@@ -19,36 +19,36 @@ width_of info = 2 ^ (info - 24)
 
 -- the head with the initial byte b before place `at`: its argument is in the five low bits where they are below 24; 24 to 27 say how
 -- many bytes hold it; 28 to 31 are malformed
-unfoldable pub head_after : List ℕ → ℕ → ℕ → Head
+unfoldable pub head_after : List ℕ → ℕ → ℕ → Option Head
 head_after s b at =
-    pick (ltb (b % 32) 24) (Head.Is (b / 32) (b % 32) at)
-    (pick (ltb 27 (b % 32)) Head.Malformed
-    (pick (ltb (length s - at) (width_of (b % 32))) Head.Malformed
-    (Head.Is (b / 32) (be_after 0 (take (width_of (b % 32)) (drop at s))) (at + width_of (b % 32)))))
+    pick (ltb (b % 32) 24) (Some (record { major = b / 32; argument = b % 32; next = at }))
+    (pick (ltb 27 (b % 32)) None
+    (pick (ltb (length s - at) (width_of (b % 32))) None
+    (Some (record { major = b / 32; argument = be_after 0 (take (width_of (b % 32)) (drop at s)); next = at + width_of (b % 32) }))))
 
--- the head at a place
-unfoldable pub head_at_def : List ℕ → ℕ → Head
-head_at_def s at = pick (ltb at (length s)) (head_after s (get_or s at 0) (at + 1)) Head.Malformed
+-- the head at a place; none where it is malformed
+unfoldable pub head_at_def : List ℕ → ℕ → Option Head
+head_at_def s at = pick (ltb at (length s)) (head_after s (get_or s at 0) (at + 1)) None
 
 -- a string of n bytes from a place on, where they are there
-unfoldable pub string_from_def : List ℕ → Value → ℕ → ℕ → Item
-string_from_def s value n at = pick (ltb (length s - at) n) Item.Malformed (Item.Is value (at + n))
+unfoldable pub string_from_def : List ℕ → Value → ℕ → ℕ → Option Item
+string_from_def s v n at = pick (ltb (length s - at) n) None (Some (record { value = v; next = at + n }))
 
 -- the value that a head of this major type and argument begins
-unfoldable pub value_after_def : List ℕ → Head → Item
-value_after_def s Head.Malformed = Item.Malformed
-value_after_def s (Head.Is major n at) =
-    pick (eqb major 0) (Item.Is (Unsigned n) at)
-    (pick (eqb major 1) (Item.Is (Negative n) at)
-    (pick (eqb major 2) (string_from_def s (Bytes at n) n at)
-    (pick (eqb major 3) (string_from_def s (Text at n) n at)
-    Item.Malformed)))
+unfoldable pub value_after_def : List ℕ → Option Head → Option Item
+value_after_def s None = None
+value_after_def s (Some h) =
+    pick (eqb h.major 0) (Some (record { value = Unsigned h.argument; next = h.next }))
+    (pick (eqb h.major 1) (Some (record { value = Negative h.argument; next = h.next }))
+    (pick (eqb h.major 2) (string_from_def s (Bytes (record { start = h.next; len = h.argument })) h.argument h.next)
+    (pick (eqb h.major 3) (string_from_def s (Text (record { start = h.next; len = h.argument })) h.argument h.next)
+    None)))
 
--- the value at a place: false, true and null are the bytes F4, F5 and F6
-unfoldable pub item_at : List ℕ → ℕ → Item
+-- the item at a place, none where it is malformed: false, true and null are the bytes F4, F5 and F6
+unfoldable pub item_at : List ℕ → ℕ → Option Item
 item_at s at =
-    pick (not (ltb at (length s))) Item.Malformed
-    (pick (eqb (get_or s at 0) 0xF4) (Item.Is (Flag false) (at + 1))
-    (pick (eqb (get_or s at 0) 0xF5) (Item.Is (Flag true) (at + 1))
-    (pick (eqb (get_or s at 0) 0xF6) (Item.Is Null (at + 1))
+    pick (not (ltb at (length s))) None
+    (pick (eqb (get_or s at 0) 0xF4) (Some (record { value = Flag false; next = at + 1 }))
+    (pick (eqb (get_or s at 0) 0xF5) (Some (record { value = Flag true; next = at + 1 }))
+    (pick (eqb (get_or s at 0) 0xF6) (Some (record { value = Null; next = at + 1 }))
     (value_after_def s (head_at_def s at)))))

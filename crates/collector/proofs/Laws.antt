@@ -1,20 +1,19 @@
 -- What the collector's definitions give on each way of their tests.
 -- Assumes nothing.
 use mathlib.Core.Path.{◌≡◌, refl, sym, ap, ap₂, ◌∙◌}
-use Prim.Native.Nat.{ℕ, ◌+◌, ◌-◌, ◌≤◌, ◌<◌}
+use Prim.Native.Nat.{ℕ, ◌+◌, ◌-◌, ◌≤◌, ◌<◌, min}
 use native.Mathlib.Nat.{zero-add, add-zero}
 use native.Mathlib.Omega.{arith}
 use mathlib.Core.Bool.{Bool, true, false, false≢true}
 use mathlib.Core.List.{List, [], ◌∷◌, ◌++◌, append_assoc}
-use lib.Dec.{ltb, eqb}
+use lib.Dec.{eqb}
 use native.Mathlib.Decide.{dec_le}
 use borrow.Author.Tests.{lt-ltb, le-ltb}
-use lib.ListN.{length, take, drop, set, length-append, length-take, length-drop, drop_of_length-le}
-use lib.Seq.{take-length}
-use Rattle.collector.specs.Search.{index_after, index_of, slice}
+use lib.ListN.{length, take, drop, set, length-append, length-take, length-drop}
+use Rattle.collector.specs.Search.{index_after, index_of}
 use Rattle.laws.specs.Bytes.{pasted}
 use Rattle.laws.proofs.Choice.{pick_yes, pick_no}
-use Rattle.laws.proofs.Lists.{pasted_none, pasted_length, pasted_twice, set_pasted, rest_all}
+use Rattle.laws.proofs.Lists.{pasted_none, pasted_length, pasted_twice, set_pasted}
 use Rattle.frame.specs.Line.{longest, newline}
 use Rattle.collector.specs.declared.Collector.{Collector}
 use Rattle.collector.specs.Collector.{
@@ -131,11 +130,10 @@ before_le (b ∷ s) = by-test (eqb b newline) (before_le s)
     by-test true h = omega arith
     by-test false h = omega (arith, h)
 
--- the search among the held bytes finds what makes a record impossible
-pub impossible_found : (c : Collector) (r : ℕ) → length c.held ≡ most → c.count ≤ most
-    → r ≡ 0 + index_of newline (slice 0 c.count c.held) → ltb r c.count ≡ impossible c
-unfolding impossible slice
-impossible_found c r l h e = rw (e, zero-add, le-ltb most c.count h, pick_no, held_length c l h)
+-- an 0A among the held bytes is what makes a record impossible that holds no more bytes than it may
+pub impossible_held : (c : Collector) → c.count ≤ most → has_newline (held_of c) ≡ impossible c
+unfolding impossible
+impossible_held c h = rw (le-ltb most c.count h, pick_no)
 
 pub impossible_over : (c : Collector) → most < c.count → true ≡ impossible c
 unfolding impossible
@@ -148,11 +146,6 @@ possible_count c e = elim (dec_le c.count most) [
   | yes h ↦ h
   | no h ↦ absurd (false≢true (sym e ∙ rw (lt-ltb most c.count (omega (arith, h)), pick_yes)))
 ]
-
--- the search from a place of the lump on
-pub found_rest : (s : List ℕ) (at r : ℕ) → r ≡ at + index_of newline (slice at (length s) s) → r ≡ at + before (drop at s)
-unfolding slice
-found_rest s at r e = e ∙ ap (λ (l : List ℕ). at + before (drop at l)) (take-length s)
 
 -- the refusals 1 and 12, and a step between them
 pub collect_impossible : (c : Collector) (lump : List ℕ) (at : ℕ) (b : List ℕ) → impossible c ≡ true → collect c lump at b ≡ keeping 1 c at b
@@ -185,31 +178,20 @@ pub stepped_line : (c : Collector) (size at : ℕ) (s b : List ℕ) → has_newl
 unfolding stepped
 stepped_line c size at s b e = rw (e, pick_yes)
 
--- at most a number, and not that number
-below : (r n : ℕ) → r ≤ n → (r ≡ n → ⊥) → r < n
-below r n h other = elim (dec_le n r) [ yes k ↦ absurd (other (omega (arith, h, k))) | no k ↦ omega (arith, k) ]
-
--- a step from the lump's end or beyond, one that finds no 0A, and one that finds it at place r
-pub step_past : (c : Collector) (lump : List ℕ) (at : ℕ) (b : List ℕ) → c.count ≤ most → length lump ≤ at
-    → record { says = used_up; place = length lump; collector = c; buffer = b } ≡ stepped c (length lump) at (drop at lump) b
-unfolding index_of
-step_past c lump at b h over =
-    rw (drop_of_length-le lump {i = at} over, stepped_rest c (length lump) at [] b refl, longer_none c h)
-
-pub step_rest : (c : Collector) (lump : List ℕ) (at : ℕ) (b : List ℕ) (r : ℕ) (next : Collector) → at < length lump
-    → r ≡ at + before (drop at lump) → r ≡ length lump → next ≡ longer c (take (length lump - at) (drop at lump))
+-- a step that finds no 0A, and one that finds it behind n bytes
+pub step_rest : (c : Collector) (lump : List ℕ) (at : ℕ) (b x : List ℕ) (next : Collector)
+    → x ≡ drop at lump → has_newline x ≡ false → next ≡ longer c x
     → record { says = used_up; place = length lump; collector = next; buffer = b } ≡ stepped c (length lump) at (drop at lump) b
-step_rest c lump at b r next inside f e en =
-    let none : has_newline (drop at lump) ≡ false = le-ltb (before (drop at lump)) (length (drop at lump)) (simp length-drop (omega (arith, f, e))) in
-    rw (en, rest_all lump at, stepped_rest c (length lump) at (drop at lump) b none)
+step_rest c lump at b x next e none en = rw (en, e, stepped_rest c (length lump) at (drop at lump) b (rw e at none))
 
-pub step_line : (c : Collector) (lump : List ℕ) (at : ℕ) (b : List ℕ) (r : ℕ) (says : Said) (buffer : List ℕ) (next : Collector) → at < length lump
-    → r ≡ at + before (drop at lump) → r ≤ length lump → (r ≡ length lump → ⊥)
-    → (says, buffer) ≡ saying (ended c (take (r - at) (drop at lump))) b → next ≡ empty
-    → record { says = says; place = r + 1; collector = next; buffer = buffer } ≡ stepped c (length lump) at (drop at lump) b
-step_line c lump at b r says buffer next inside f most-r other e en =
-    let there : has_newline (drop at lump) ≡ true = lt-ltb (before (drop at lump)) (length (drop at lump))
-    (simp length-drop (omega (arith, f, most-r, below (r) (length lump) most-r other))) in
-    let n : r - at ≡ before (drop at lump) = omega (arith, f) in
-    let e2 : (says, buffer) ≡ saying (ended c (take (before (drop at lump)) (drop at lump))) b = rw n at e in
-    rw (stepped_line c (length lump) at (drop at lump) b there, en, ← e2, ← f)
+pub step_line : (c : Collector) (lump : List ℕ) (at from : ℕ) (b x : List ℕ) (n : ℕ) (says : Said) (buffer : List ℕ) (next : Collector)
+    → from ≡ min at (length lump) → x ≡ drop at lump → n ≡ before x → n < length x
+    → (says, buffer) ≡ saying (ended c (take n x)) b → next ≡ empty
+    → record { says = says; place = from + n + 1; collector = next; buffer = buffer } ≡ stepped c (length lump) at (drop at lump) b
+step_line c lump at from b x n says buffer next m e f inside es en =
+    let there : has_newline (drop at lump) ≡ true = rw e at (lt-ltb (before x) (length x) (omega (arith, f, inside))) in
+    let within : length (drop at lump) ≡ length lump - at = length-drop at lump in
+    let low : from ≡ at = omega (arith, m, inside, within, ap length e) in
+    let k : n ≡ before (drop at lump) = rw e at f in
+    let es2 : (says, buffer) ≡ saying (ended c (take (before (drop at lump)) (drop at lump))) b = rw (← k, ← e) es in
+    rw (stepped_line c (length lump) at (drop at lump) b there, en, ← es2, low, k)

@@ -1,5 +1,4 @@
 mod Search
 pub mod Laws
 pub mod Cut
-pub mod Blocks
 pub mod Lumps

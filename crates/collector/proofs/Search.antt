@@ -1,33 +1,45 @@
--- Laws of the search for a byte, one element after the other.
+-- Laws of the search for a byte: the place at which it stands first, and whether it is there.
 -- Assumes nothing.
-use mathlib.Core.Path.{◌≡◌, ap, ◌∙◌}
-use mathlib.Core.List.{List, ◌∷◌}
-use Prim.Native.Nat.{ℕ, suc, ◌+◌, ◌≤◌, ◌<◌}
-use native.Mathlib.Omega.{arith}
-use lib.ListN.{length, take, drop, get_or, length-take, drop_of_length-le}
-use Rattle.std.proofs.Math.Seq.{drop-cons}
-use Rattle.std.proofs.lemmas.List.{get_or-take}
-use borrow.Author.Tests.{eq-eqb, ne_eqb}
-use Rattle.collector.specs.Search.{slice, index_after, index_of}
+use Rattle.std.proofs.Common.{◌≡◌, ℕ, zero, suc, ◌<◌, Bool, true, false, List, [], ◌∷◌, Option, None, Some, MatchOption, length, get_or, arith, refl, sym, ap, nat_eq}
+use Rattle.std.specs.List.{list_any}
+use Prim.Native.Nat.compare
+use borrow.Author.Tests.{lt-ltb, le-ltb, eq-eqb, ne_eqb, eqb-true}
+use Rattle.memchr.specs.Find.{IsFirstByte, is_byte}
+use Rattle.collector.specs.Search.{index_after, index_of}
+use Rattle.frame.specs.Line.{newline}
+use Rattle.collector.specs.Collector.{before, has_newline}
 
--- a part that is not empty begins with the element at its place
-slice_first : (s : List ℕ) (i to : ℕ) → i < to → to ≤ length s → slice i to s ≡ get_or s i 0 ∷ slice (suc i) to s
-unfolding slice
-slice_first s i to h e =
-    let l : i < length (take to s) = simp length-take (omega arith) in
-    drop-cons (take to s) i 0 l ∙ ap (λ (n : ℕ). n ∷ drop (suc i) (take to s)) (get_or-take to s i 0 h)
-
--- at the end of the part, where it is passed over, and where it stands
-pub search_over : (b : ℕ) (s : List ℕ) (i to : ℕ) → to ≤ i → to ≤ length s → i + index_of b (slice i to s) ≡ i
-unfolding slice index_of
-search_over b s i to h e = rw (drop_of_length-le (take to s) {i = i} (simp length-take (omega arith))) (omega arith)
-
-pub search_miss : (b : ℕ) (s : List ℕ) (i to : ℕ) → i < to → to ≤ length s → (get_or s i 0 ≡ b → ⊥) → i + index_of b (slice i to s) ≡ i + 1 + index_of b (slice (i + 1) to s)
+-- the place of a byte before which none like it stands
+index_here : (b : ℕ) (s : List ℕ) (n : ℕ) → n < length s → ((k : ℕ) → k < n → get_or s k 0 ≡ b → ⊥) → get_or s n 0 ≡ b → index_of b s ≡ n
 unfolding index_of index_after
-search_miss b s i to h e other =
-    let n : i + 1 ≡ suc i = omega arith in
-    rw (n, slice_first s i to h e, ne_eqb (get_or s i 0) b other) (omega arith)
+index_here b [] n h below here = absurd (omega (arith, h))
+index_here b (x ∷ s) zero h below here = rw (eq-eqb x b here) refl
+index_here b (x ∷ s) (suc n) h below here =
+    rw (ne_eqb x b (below 0 (omega arith))) (ap suc (index_here b s n (omega (arith, h)) (λ k l. below (suc k) (omega (arith, l))) here))
 
-pub search_hit : (b : ℕ) (s : List ℕ) (i to : ℕ) → i < to → to ≤ length s → get_or s i 0 ≡ b → i + index_of b (slice i to s) ≡ i
+-- and none at all
+index_nowhere : (b : ℕ) (s : List ℕ) → ((k : ℕ) → k < length s → get_or s k 0 ≡ b → ⊥) → index_of b s ≡ length s
 unfolding index_of index_after
-search_hit b s i to h e here = rw (slice_first s i to h e, eq-eqb (get_or s i 0) b here) (omega arith)
+index_nowhere b [] none = refl
+index_nowhere b (x ∷ s) none = rw (ne_eqb x b (none 0 (omega arith))) (ap suc (index_nowhere b s (λ k l. none (suc k) (omega (arith, l)))))
+
+-- so the library's search finds the first 0A
+pub newline_found : (s : List ℕ) (r : Option ℕ) → IsFirstByte (is_byte newline) s r
+    → MatchOption r (has_newline s ≡ false) (λ n. (n ≡ before s) × (n < length s))
+newline_found s None h =
+    le-ltb (before s) (length s) (omega (arith, index_nowhere newline s (λ k l e. h k (omega arith) l (eq-eqb (get_or s k 0) newline e))))
+newline_found s (Some n) h = (
+  sym (index_here newline s n h.0.high (λ k l e. h.0.before k (omega arith) l (eq-eqb (get_or s k 0) newline e)) (eqb-true (get_or s n 0) newline h.1)),
+  h.0.high,
+)
+
+-- and so does its test whether one is there
+pub newline_there : (s : List ℕ) → list_any (λ y. nat_eq y newline) s ≡ has_newline s
+unfolding index_of index_after
+newline_there [] = refl
+newline_there (x ∷ s) = by-test (nat_eq x newline) refl (newline_there s)
+  where
+    by-test : (t : Bool) → nat_eq x newline ≡ t → list_any (λ y. nat_eq y newline) s ≡ has_newline s
+        → list_any (λ y. nat_eq y newline) (x ∷ s) ≡ has_newline (x ∷ s)
+    by-test true e rest = rw e (sym (lt-ltb 0 (length (x ∷ s)) (omega arith)))
+    by-test false e rest = rw (e, compare.suc-suc) rest

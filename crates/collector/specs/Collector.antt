@@ -1,15 +1,14 @@
 -- The line collector: what one step gives and leaves, for every record, lump and place, and what a whole stream of bytes gives.
 -- Assumes nothing.
-use Rattle.std.specs.Prelude.{ℕ, ◌+◌, ◌-◌, Bool, true, false, List, [], ◌∷◌, ◌++◌, ltb, length, take, drop, replicate}
+use Rattle.std.specs.Prelude.{ℕ, ◌+◌, ◌-◌, Bool, true, false, List, [], ◌∷◌, ◌++◌, ltb, length, take, drop, replicate, Option, Some, None, Result, Ok, Err}
 use Rattle.laws.specs.Choice.{pick}
 use Rattle.laws.specs.Bytes.{pasted}
 use Rattle.collector.specs.Search.{index_of}
 use Rattle.refusal.specs.Number.{number_of}
+use Rattle.refusal.specs.declared.Refusal.{Refusal}
 use Rattle.refusal.specs.declared.Refusal.TheVariants.{Impossible, LineTooLong, Unsendable}
 use Rattle.frame.specs.Line.{longest, newline}
 use Rattle.collector.specs.declared.Collector.{Collector}
-use Rattle.collector.specs.declared.Got.{Got}
-use Rattle.collector.specs.declared.Got.TheVariants.{Line, UsedUp, Refused}
 use Rattle.collector.specs.declared.Step.{Step}
 
 -- the most bytes that stand before a line's 0A, and that a record holds: "over 126 bytes"
@@ -80,10 +79,10 @@ pub data Said : Type 0 where
   refusing : ℕ → Said
 
 -- each answer's meaning
-abbrev pub said : Got → Said
-said (Line n) = line_of n
-said UsedUp = used_up
-said (Refused r) = refusing (number_of r)
+abbrev pub said : Result (Option ℕ) Refusal → Said
+said (Ok (Some n)) = line_of n
+said (Ok None) = used_up
+said (Err r) = refusing (number_of r)
 
 -- all that a step leaves: what it said, the place to go on from, the record and the lent array
 pub record Outcome : Type 0 where

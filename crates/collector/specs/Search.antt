@@ -1,10 +1,6 @@
 -- Where the first of some bytes stands in a list.
 -- Assumes nothing.
-use Rattle.std.specs.Prelude.{ℕ, suc, Bool, true, false, List, [], ◌∷◌, eqb, take, drop}
-
--- the elements from one place up to another
-unfoldable pub slice : ℕ → ℕ → List ℕ → List ℕ
-slice from to s = drop from (take to s)
+use Rattle.std.specs.Prelude.{ℕ, suc, Bool, true, false, List, [], ◌∷◌, eqb}
 
 -- the place, where the element in front is the one that is looked for, or not
 unfoldable pub index_after : Bool → ℕ → ℕ

@@ -1,10 +1,8 @@
 // The line collector: bytes come in lumps, as a serial driver has them, and each line is handed on when its 0A comes.
 #![tactic(auto)]
 
-ghost use Rattle.std.specs.Prelude.{◌≡◌, ◌+◌, ◌≤◌, length, take, drop};
-ghost use Rattle.frame.specs.Line.{longest};
-ghost use Rattle.collector.specs.Search.{slice, index_of};
-ghost use Rattle.collector.specs.Collector.{most, longest_lump, before, has_newline, impossible, nothing, empty, longer, ended, said, saying, outcome, stepped, collect};
+ghost use Rattle.std.specs.Prelude.{◌≡◌, ◌+◌, ◌≤◌, ◌<◌, false, length, drop, MatchOption};
+ghost use Rattle.collector.specs.Collector.{most, before, has_newline, impossible, nothing, empty, longer, ended, said, saying, outcome, stepped, collect};
 
 use refusal::Refusal;
 
@@ -14,8 +12,9 @@ pub const MOST: usize = frame::LONGEST - 1;
 // The longest lump.
 pub const LONGEST_LUMP: usize = 256;
 
-// The collector's record between two steps.
-#[derive(Clone, Copy)]
+// The collector's record between two steps. The C interface lends all its bytes and any count: so the held bytes are an array and a count beside it, with
+// no invariant, and what the methods ask of the count stands in their clauses.
+#[derive(Clone, Copy, Debug, PartialEq, Eq)]
 pub struct Collector {
     // The bytes of the line that has begun stand at the start of this array; what stands behind them is not looked at.
     pub held: [u8; MOST],
@@ -25,76 +24,25 @@ pub struct Collector {
     pub skipping: bool,
 }
 
-// What a step gives.
-#[derive(Clone, Copy)]
-pub enum Got {
-    // A line of this many bytes, its 0A included, stands at the start of the lent array.
-    Line(usize),
-    // The lump is used up.
-    UsedUp,
-    // The record or the lump was refused, and nothing was taken; or a line that is too long has ended.
-    Refused(Refusal),
-}
-
 // What a step gives, the place of the lump to go on from, and the collector for the next step.
-#[derive(Clone, Copy)]
+#[derive(Clone, Copy, Debug, PartialEq, Eq)]
 pub struct Step {
-    pub got: Got,
+    // A line of this many bytes, its 0A included, stands at the start of the lent array; none: the lump is used up. Or the record or the lump was
+    // refused, and nothing was taken; or a line that is too long has ended.
+    pub got: Result<Option<usize>, Refusal>,
     pub place: usize,
     pub collector: Collector,
 }
 
-// Whether an 0A is among the 16 bytes from place i on: each of them is looked at, so that the compiler compares them at once.
-fn in_block(s: &[u8], i: usize) -> bool
-    requires { i + 16 ≤ length s.now }
-    ensures { result ≡ has_newline (take 16 (drop i s.now)) }
+// Where the first 0A stands among some bytes.
+fn first_newline(s: &[u8]) -> Option<usize>
+    ensures { MatchOption result (has_newline s.now ≡ false) (λ n. (n ≡ before s.now) × (n < length s.now)) }
 {
-    let mut found = false;
-    let mut j = 0;
-    while j < 16 {
-        if s[i + j] == frame::NEWLINE {
-            found = true;
-        }
-        j += 1;
-    }
-    found
-}
-
-// Where the first b from place `from` on and before `end` stands, or `end` where there is none.
-fn find(s: &[u8], from: usize, end: usize, b: u8) -> usize
-    requires from_bound { from ≤ end }
-    requires end_bound { end ≤ length s.now }
-    ensures place { result ≡ from + index_of b (slice from end s.now) }
-    ensures within { result ≤ end }
-{
-    let mut i = from;
-    while i < end {
-        if s[i] == b {
-            break;
-        }
-        i += 1;
-    }
-    i
-}
-
-// Where the first 0A from place `from` on stands, or the length where there is none.
-fn first_newline(s: &[u8], from: usize) -> usize
-    requires { from ≤ length s.now }
-    ensures { (result ≡ from + before (drop from s.now)) × (result ≤ length s.now) }
-{
-    let len = s.len();
-    let mut i = from;
-    while 16 <= len - i {
-        if in_block(s, i) {
-            break;
-        }
-        i += 16;
-    }
-    find(s, i, len, frame::NEWLINE)
+    memchr::memchr(frame::NEWLINE, s)
 }
 
 impl Collector {
-    // A collector that holds nothing, inside a line that is too long or not.
+    // A collector that holds nothing, inside a line that is too long or not: a flag beside the count, since C's record has both.
     fn nothing(skipping: bool) -> Collector
         ensures { result ≡ nothing skipping }
     {
@@ -114,7 +62,7 @@ impl Collector {
 
     // The collector with the bytes x more of its line, none of them 0A.
     fn with(self, x: &[u8]) -> Collector
-        requires { (length self.held ≡ most) × (self.count ≤ most) × (length x.now ≤ longest_lump) }
+        requires { self.count ≤ most }
         ensures { result ≡ longer self x.now }
     {
         if self.skipping {
@@ -134,65 +82,48 @@ impl Collector {
     }
 
     // The line of the collector ends after the bytes x: it goes to the start of the lent array, unless it is too long.
-    fn end(self, x: &[u8], line: &mut [u8]) -> Got
-        requires { (length self.held ≡ most) × (self.count ≤ most) × (length x.now ≤ longest_lump) × (length line.old ≡ longest) }
+    fn end(self, x: &[u8], line: &mut [u8; frame::LONGEST]) -> Result<Option<usize>, Refusal>
+        requires { self.count ≤ most }
         ensures { (said result, line.new) ≡ saying (ended self x.now) line.old }
     {
         if self.skipping {
-            return Got::Refused(Refusal::LineTooLong);
+            return Err(Refusal::LineTooLong);
         }
-        let count = self.count;
-        let last = count + x.len();
+        let last = self.count + x.len();
         if MOST < last {
-            return Got::Refused(Refusal::LineTooLong);
+            return Err(Refusal::LineTooLong);
         }
-        let held = self.held;
-        laws::put(line, 0, &held[..count]);
-        laws::put(line, count, x);
+        laws::put(line, 0, &self.held[..self.count]);
+        laws::put(line, self.count, x);
         line[last] = frame::NEWLINE;
-        Got::Line(last + 1)
+        Ok(Some(last + 1))
     }
 
     // Whether the collector holds more bytes than a line can have before its 0A, or an 0A.
     fn is_impossible(self) -> bool
         ensures { result ≡ impossible self }
     {
-        let count = self.count;
-        if MOST < count {
-            return true;
-        }
-        let held = self.held;
-        find(&held, 0, count, frame::NEWLINE) < count
+        MOST < self.count || self.held[..self.count].contains(&frame::NEWLINE)
     }
 
     // A step through a lump that is no longer than it may be.
-    fn step(self, lump: &[u8], at: usize, line: &mut [u8]) -> Step
-        requires { (length self.held ≡ most) × (self.count ≤ most) × (length lump.now ≤ longest_lump) × (length line.old ≡ longest) }
+    fn step(self, lump: &[u8], at: usize, line: &mut [u8; frame::LONGEST]) -> Step
+        requires { self.count ≤ most }
         ensures { outcome result line.new ≡ stepped self (length lump.now) at (drop at lump.now) line.old }
     {
-        let len = lump.len();
-        if len <= at {
+        let from = at.min(lump.len());
+        let rest = &lump[from..];
+        let Some(n) = first_newline(rest) else {
             return Step {
-                got: Got::UsedUp,
-                place: len,
-                collector: self,
+                got: Ok(None),
+                place: lump.len(),
+                collector: self.with(rest),
             };
-        }
-        let end = first_newline(lump, at);
-        if end == len {
-            let longer = self.with(&lump[at..]);
-            return Step {
-                got: Got::UsedUp,
-                place: len,
-                collector: longer,
-            };
-        }
-        let got = self.end(&lump[at..end], line);
-        let next = Collector::new();
+        };
         Step {
-            got,
-            place: end + 1,
-            collector: next,
+            got: self.end(&rest[..n], line),
+            place: from + n + 1,
+            collector: Collector::new(),
         }
     }
 
@@ -202,14 +133,14 @@ impl Collector {
     {
         if self.is_impossible() {
             return Step {
-                got: Got::Refused(Refusal::Impossible),
+                got: Err(Refusal::Impossible),
                 place: at,
                 collector: self,
             };
         }
         if LONGEST_LUMP < lump.len() {
             return Step {
-                got: Got::Refused(Refusal::Unsendable),
+                got: Err(Refusal::Unsendable),
                 place: at,
                 collector: self,
             };

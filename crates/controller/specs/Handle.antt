@@ -1,21 +1,21 @@
 -- The request call: what it says, and what becomes of memory, session, tag and reply buffer, for every input. "Request order: 1, 11, 10, then
 -- rc 8, rc 3, then the command's own rules."
 -- Assumes nothing.
-use Rattle.std.specs.Prelude.{ℕ, not, List, [], ltb, length}
+use Rattle.std.specs.Prelude.{ℕ, not, List, [], ltb, length, Option, Some, None, Result, Ok, Err}
 use Rattle.laws.specs.Choice.{pick}
 use Rattle.laws.specs.Bytes.{pasted}
+use Rattle.refusal.specs.declared.Refusal.{Refusal}
 use Rattle.refusal.specs.Number.{number_of}
+use Rattle.reason.specs.declared.Reason.{Reason}
 use Rattle.session.specs.declared.Slot.{Slot}
 use Rattle.session.specs.declared.Layout.{Layout}
 use Rattle.session.specs.Session.{State, state_of, possible}
 use Rattle.slot.specs.Act.{Act, done}
 use Rattle.requests.specs.declared.Request.{Request}
-use Rattle.requests.specs.declared.Reading.{Reading}
 use Rattle.smp.specs.Packet.{header_in_def}
 use Rattle.requests.specs.Request.{read_request_def}
 use Rattle.smp.specs.Reply.{reply_bytes}
-use Rattle.controller.specs.declared.Answer.{Answer}
-use Rattle.controller.specs.declared.Answer.TheVariants.{Replied, ResetAsked, Refused}
+use Rattle.controller.specs.declared.Replied.{Replied}
 use Rattle.controller.specs.declared.Handled.{Handled}
 use Rattle.controller.specs.Doing.{act_for, response_for, response_map, asks_reset_def}
 
@@ -26,10 +26,9 @@ pub data Said : Type 0 where
   refused : ℕ → Said
 
 -- each answer's meaning
-abbrev pub said : Answer → Said
-said (Replied n) = replied n
-said (ResetAsked n) = reset_asked n
-said (Refused r) = refused (number_of r)
+abbrev pub said : Result Replied Refusal → Said
+said (Ok r) = pick r.asks_reset (reset_asked r.length) (replied r.length)
+said (Err r) = refused (number_of r)
 
 -- all that a call leaves: what it said, memory with session and tag, and the reply buffer
 pub record Outcome : Type 0 where
@@ -44,12 +43,12 @@ outcome h m tag b = record { says = said h.answer; state = state_of m tag h.sess
 -- how a call is taken: refused by this number, or as this request
 pub data Taking : Type 0 where
   refusal : ℕ → Taking
-  request : Request → Taking
+  request : Result Request Reason → Taking
 
 -- a packet that was read: refusal 10, or the request
-unfoldable pub asked : Reading → Taking
-asked Reading.NotARequest = refusal 10
-asked (Reading.Is r) = request r
+unfoldable pub asked : Option (Result Request Reason) → Taking
+asked None = refusal 10
+asked (Some r) = request r
 
 -- the refusals in their order: 1, 11, 10
 unfoldable pub taking : Layout → State → List ℕ → List ℕ → Taking

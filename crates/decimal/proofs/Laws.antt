@@ -1,19 +1,19 @@
 -- Decimal digits: how many there are, a turn of the loop that counts them, a turn of the loop that writes them, and a byte after them.
 -- Assumes nothing.
-use mathlib.Core.Path.{◌≡◌, refl, sym, ap, ap₂, ◌∙◌}
-use mathlib.Core.List.{List, [], ◌∷◌, ◌++◌}
-use Prim.Native.Nat.{ℕ, zero, suc, ◌+◌, ◌-◌, ◌/◌, ◌%◌, ◌^◌, ◌≤◌, ◌<◌}
+use mathlib.Core.Path.{◌≡◌, refl, sym, ap, ◌∙◌}
+use mathlib.Core.List.{List, ◌++◌}
+use Prim.Native.Nat.{ℕ, zero, suc, ◌+◌, ◌-◌, ◌*◌, ◌/◌, ◌%◌, ◌^◌, ◌≤◌, ◌<◌, min}
 use native.Mathlib.Nat.{pow-suc, div-div-eq-div-mul, div-one}
 use native.Mathlib.Omega.{arith}
 use lib.Dec.{ltb, lit<}
 use borrow.Author.Tests.{lt-ltb, le-ltb}
-use lib.ListN.{length, set, length-append}
+use lib.ListN.{length, set, take, drop, length-take, length-drop}
+use lib.Seq.{drop-length}
+use Rattle.std.proofs.lemmas.List.{drop-set}
 use Rattle.laws.specs.Bytes.{pasted}
 use Rattle.laws.proofs.Choice.{pick_yes, pick_no, pick_case}
-use Rattle.laws.proofs.Lists.{pasted_none, pasted_length, pasted_twice, set_pasted}
-use Rattle.cbor.specs.Inner.{Put}
-use Rattle.cbor.proofs.Numbers.{pasted_before}
-use Rattle.decimal.specs.Decimal.{digits, digit_count_def}
+use Rattle.laws.proofs.Lists.{filled_part}
+use Rattle.decimal.specs.Decimal.{digits, digit_count_def, decimal}
 
 -- as many digits as were asked for
 pub digits_length : (w n : ℕ) → length (digits w n) ≡ w
@@ -22,11 +22,27 @@ digits_length zero n = refl
 digits_length (suc w) n = ap suc (digits_length w n)
 
 -- nothing is written yet
-pub digits_none : (m : List ℕ) (at w n : ℕ) → m ≡ pasted m at (digits (w - w) n)
+pub digits_none : (t : List ℕ) (n : ℕ) → drop (length t) t ≡ digits (length t - length t) n
 unfolding digits
-digits_none m at w n =
-    let e : w - w ≡ 0 = omega arith in
-    rw e (sym (pasted_none m at))
+digits_none t n =
+    let e : length t - length t ≡ 0 = omega arith in
+    rw (drop-length, e)
+
+-- all of them are
+pub digits_all : (t : List ℕ) (i w n : ℕ) → i ≤ 0 → length t ≡ w → drop i t ≡ digits (length t - i) n → t ≡ digits w n
+digits_all t i w n h e d =
+    let start : i ≡ 0 = omega arith in
+    let whole : length t - 0 ≡ w = omega arith in
+    rw (start, whole) at d
+
+-- one digit is written, the one before those that are
+pub digits_turn : (t : List ℕ) (i n v : ℕ) → 0 < i → i ≤ length t → drop i t ≡ digits (length t - i) n → v ≡ n / 10 ^ (length t - i)
+    → drop (i - 1) (set t (i - 1) (48 + v % 10)) ≡ digits (length t - (i - 1)) n
+unfolding digits
+digits_turn t i n v p h d e =
+    let more : length t - (i - 1) ≡ suc (length t - i) = omega arith in
+    let next : i - 1 + 1 ≡ i = omega arith in
+    rw (more, drop-set t (i - 1) (48 + v % 10) (omega arith), next, d, e)
 
 -- nothing is taken off the number yet
 pub tens_none : (w n : ℕ) → n ≡ n / 10 ^ (w - w)
@@ -34,39 +50,27 @@ tens_none w n =
     let e : w - w ≡ 0 = omega arith in
     rw (e, div-one)
 
--- one digit is written, the one before those that are
-pub digits_turn : (m : List ℕ) (at i w n : ℕ) → 0 < i → i ≤ w → at + w ≤ length m
-    → set (pasted m (at + i) (digits (w - i) n)) (at + (i - 1)) (48 + n / 10 ^ (w - i) % 10) ≡ pasted m (at + (i - 1)) (digits (w - (i - 1)) n)
-unfolding digits
-digits_turn m at i w n p h k =
-    let e : w - (i - 1) ≡ suc (w - i) = omega arith in
-    let next : at + i ≡ at + (i - 1) + 1 = omega arith in
-    rw (e, next, pasted_before m (at + (i - 1)) (48 + n / 10 ^ (w - i) % 10) (digits (w - i) n) (rw digits_length (omega arith)))
-
 -- what is left of the number after it
 pub tens_turn : (n i w : ℕ) → 0 < i → i ≤ w → n / 10 ^ (w - i) / 10 ≡ n / 10 ^ (w - (i - 1))
 tens_turn n i w p h =
     let e : w - (i - 1) ≡ suc (w - i) = omega arith in
     rw (e, pow-suc, div-div-eq-div-mul)
 
--- a number with no digit after the first has one
-pub count_none : (left n : ℕ) → left ≤ 0 → digit_count_def left n ≡ 1
-unfolding digit_count_def
-count_none zero n h = refl
-count_none (suc left) n h = absurd (omega arith)
-
--- so has a number below 10
+-- a number below 10 has one digit
 pub count_small : (left n : ℕ) → n < 10 → digit_count_def left n ≡ 1
 unfolding digit_count_def
 count_small zero n h = refl
 count_small (suc left) n h = rw (lt-ltb n 10 h, pick_yes)
 
--- another has one digit more than what is left of it without its last
-pub count_turn : (left n : ℕ) → 0 < left → 10 ≤ n → digit_count_def left n ≡ 1 + digit_count_def (left - 1) (n / 10)
+-- a number from a power of ten on and below the next has as many digits after the first as that power says, or as many as may stand there
+pub count_is : (more k n : ℕ) → 10 ^ k ≤ n → n < 10 * 10 ^ k → digit_count_def more n ≡ 1 + min k more
 unfolding digit_count_def
-count_turn left n p h =
-    let e : left ≡ suc (left - 1) = omega arith in
-    ap (λ (k : ℕ). digit_count_def k n) e ∙ rw (le-ltb n 10 h, pick_no) (omega arith)
+count_is zero k n h l = omega arith
+count_is (suc more) zero n h l = rw (lt-ltb n 10 (omega arith), pick_yes) (omega arith)
+count_is (suc more) (suc k) n h l =
+    let low : 10 ^ k * 10 ≤ n = rw pow-suc at h in
+    let high : n < 10 * (10 ^ k * 10) = rw pow-suc at l in
+    rw (le-ltb n 10 (omega arith), pick_no, count_is more k (n / 10) (omega arith) (omega arith)) (omega arith)
 
 -- a number has at most one digit more than may stand after the first
 pub count_most : (more n : ℕ) → digit_count_def more n ≤ suc more
@@ -88,20 +92,11 @@ byte_digits zero n h = lit< tt
 byte_digits (suc more) n h =
     pick_case (λ (k : ℕ). k ≤ 3) (ltb n 10) _ _ (λ e. lit< tt) (λ e. omega (arith, two_digits more (n / 10) (omega arith)))
 
--- where a list has room with a byte after it, so have the list and one byte
-pub room_last : (at : ℕ) (x : List ℕ) (b : ℕ) {m : ℕ} → at + length (x ++ (b ∷ [])) ≤ m → at + length x + 1 ≤ m
-room_last at x b room = omega (arith, simp length-append at room)
-
--- a byte stored after what was written is written with it
-pub put_last : (at : ℕ) (x : List ℕ) (b : ℕ) {r : ℕ} {m l : List ℕ} → at + length (x ++ (b ∷ [])) ≤ length m → Put r l m at x
-    → Put (r + 1) (set l r b) m at (x ++ (b ∷ []))
-put_last at x b {r} {m} {l} room p =
-    let fits : at + length x + 1 ≤ length m = room_last at x b room in
-    let size : length (pasted m at x) ≡ length m = pasted_length m at x (omega arith) in
-    record {
-      place = rw length-append (omega (arith, p.place));
-      written =
-          ap₂ (λ (l : List ℕ) (k : ℕ). set l k b) p.written p.place
-          ∙ set_pasted (pasted m at x) (at + length x) b (omega arith)
-          ∙ pasted_twice m at x (b ∷ []) (omega arith);
-    }
+-- as many digits as a number has, written over so many bytes of a list
+pub put_all : (m ys : List ℕ) (at w more n : ℕ) → w ≡ digit_count_def more n → at + length (decimal more n) ≤ length m
+    → ys ≡ digits (length (take (at + w - at) (drop at m))) n
+    → (at + w ≡ at + length (decimal more n)) × (take at m ++ (ys ++ drop (at + w - at) (drop at m)) ≡ pasted m at (decimal more n))
+put_all m ys at w more n e room d =
+    let size : w ≡ length (decimal more n) = e ∙ sym (digits_length (digit_count_def more n) n) in
+    let part : length (take (at + w - at) (drop at m)) ≡ digit_count_def more n = simp (length-take, length-drop) (omega (arith, size, e)) in
+    (omega (arith, size), rw size (filled_part m at (decimal more n) ys (d ∙ ap (λ (k : ℕ). digits k n) part)))

@@ -4,36 +4,35 @@ use mathlib.Core.Path.{◌≡◌, refl, sym, ap, ◌∙◌}
 use Prim.Native.Nat.{ℕ, ◌*◌, ◌/◌, ◌≤◌}
 use mathlib.Core.List.{List, ◌++◌}
 use mathlib.Core.Option.{Option, none, some}
-use native.Mathlib.Omega.{arith}
 use lib.ListN.{length, take, drop}
 use lib.Seq.{take_at}
 use Rattle.laws.specs.Bytes.{pasted}
 use Rattle.laws.proofs.Lists.{pasted_start}
-use Rattle.decoder.specs.declared.Decoded.{Decoded}
-use Rattle.decoder.specs.declared.Decoded.TheVariants.{Bytes, Bad}
+use Rattle.std.specs.Prelude.{None, Some}
+use Rattle.std.specs.Prelude as answer
 use Rattle.strict_base64.specs.Base64.{decode}
 use Rattle.decoder.specs.Inner.{Decodes, length_in}
 use Rattle.strict_base64.proofs.Laws.{decode_length}
 use Rattle.decoder.proofs.Kept.{stored_good}
 
 -- an answer that is bad is that of nothing
-bad_none : (o : Option (List ℕ)) → Bad ≡ length_in o → o ≡ none
+bad_none : (o : Option (List ℕ)) → None ≡ length_in o → o ≡ none
 unfolding length_in
 bad_none none e = refl
-bad_none (some x) e = let z : ◌≡◌ {A = ℕ} 0 1 = cc in absurd (omega arith)
+bad_none (some x) e = absurd cc
 
 -- an answer of n bytes is that of a list of n
-good_some : (o : Option (List ℕ)) (n : ℕ) → Bytes n ≡ length_in o → (x : List ℕ) × (o ≡ some x) × (n ≡ length x)
+good_some : (o : Option (List ℕ)) (n : ℕ) → Some n ≡ length_in o → (x : List ℕ) × (o ≡ some x) × (n ≡ length x)
 unfolding length_in
-good_some none n e = let z : ◌≡◌ {A = ℕ} 0 1 = cc in absurd (omega arith)
+good_some none n e = absurd cc
 good_some (some x) n e = (x, refl, cc)
 
 -- a bad answer: the text decodes to nothing
-pub decodes_bad : (t d e : List ℕ) (r : Decoded) → Decodes t d r e → r ≡ Bad → decode t ≡ none
+pub decodes_bad : (t d e : List ℕ) (r : answer.Option ℕ) → Decodes t d r e → r ≡ None → decode t ≡ none
 decodes_bad t d e r p q = bad_none (decode t) (sym q ∙ p.verdict)
 
 -- an answer of n bytes: they stand at the buffer's start, three at most for each four characters
-pub decodes_good : (t d e : List ℕ) (r : Decoded) (n : ℕ) → Decodes t d r e → r ≡ Bytes n → (decode t ≡ some (take n e)) × (n ≤ length t / 4 * 3)
+pub decodes_good : (t d e : List ℕ) (r : answer.Option ℕ) (n : ℕ) → Decodes t d r e → r ≡ Some n → (decode t ≡ some (take n e)) × (n ≤ length t / 4 * 3)
 decodes_good t d e r n p q = whole (good_some (decode t) n (sym q ∙ p.verdict))
   where
     whole : (x : List ℕ) × (decode t ≡ some x) × (n ≡ length x) → (decode t ≡ some (take n e)) × (n ≤ length t / 4 * 3)

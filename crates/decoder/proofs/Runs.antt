@@ -1,11 +1,12 @@
 -- What a run of full groups from the start of a text is: no group, one group more, the first at fault, and the whole text with its last
 -- group.
 -- Assumes nothing.
-use mathlib.Core.Path.{◌≡◌, refl, sym, ap, ap₂, ◌∙◌}
+use mathlib.Core.Path.{◌≡◌, refl, sym, ap, ◌∙◌}
 use Prim.Native.Nat.{ℕ, suc, ◌+◌, ◌*◌, ◌%◌, ◌≤◌, ◌<◌}
 use native.Mathlib.Numerals.{add-one, add-two, add-three, add-four}
 use native.Mathlib.Omega.{arith}
-use mathlib.Core.Bool.{Bool, true, false}
+use native.Mathlib.Nat.{add-zero}
+use mathlib.Core.Bool.{true, false}
 use mathlib.Core.List.{List, [], ◌∷◌, ◌++◌, append_assoc, append-nil}
 use mathlib.Core.Option.{Option, none, some}
 use lib.ListN.{length, get_or, drop, length-append, length-drop, drop_of_length-le}
@@ -14,12 +15,14 @@ use borrow.Author.Tests.{eq-eqb, ne_eqb}
 use Rattle.laws.specs.Bytes.{pasted}
 use Rattle.laws.specs.Choice.{pick}
 use Rattle.laws.proofs.Choice.{pick_yes, pick_no}
-use Rattle.laws.proofs.Lists.{pasted_none}
-use Rattle.decoder.specs.declared.Decoded.TheVariants.{Bytes, Bad}
+use Rattle.laws.proofs.Lists.{pasted_none, part_pasted, rest_all}
+use Rattle.std.specs.Prelude.{None, Some}
+use Rattle.std.specs.Prelude as answer
+use Rattle.std.proofs.lemmas.List.{get_or-drop}
 use Rattle.strict_base64.specs.Base64.{final, ahead, decode}
-use Rattle.decoder.specs.Inner.{Decodes, length_in, bytes_in, kept, stored, full_at, three_at, final_at, Group, Passed, Groups, Last}
+use Rattle.decoder.specs.Inner.{Decodes, length_in, bytes_in, kept, stored, full_at, three_at, final_at, Group, Passed, Last}
 use Rattle.strict_base64.proofs.Laws.{three_length, decode_more, decode_groups, final_length}
-use Rattle.strict_base64.proofs.Pasted.{pasted_next}
+use Rattle.strict_base64.proofs.Pasted.{from_on, part_now, pasted_next}
 use Rattle.decoder.proofs.Kept.{kept_more}
 
 -- four elements from a place on, and the rest
@@ -92,34 +95,48 @@ module _ (t x : List ℕ) (g : ℕ) (p : Passed t g x) (h : length t ≡ 4 * g +
       let e = four_last t (4 * g) h in
       (p.keeps ∙ ap (λ (l : List ℕ). x ++ kept l) e, p.verdict ∙ ap (λ (l : List ℕ). ahead x (decode l)) e)
 
--- a turn of the loop over groups: the bytes so far, then one group more
-module _ (t x : List ℕ) (n g : ℕ) (m b e : List ℕ) (r : Bool) (ht : 4 * n + 4 ≤ length t) (hm : 3 * n ≤ length m) (hg : g < n)
-    (p : Passed t g x) (eb : b ≡ pasted m 0 x) (one : Group t (4 * g) b (3 * g) r e) where
-  -- the group is full
-  pub groups_next : r ≡ true → (y : List ℕ) × Passed t (g + 1) y × (e ≡ pasted m 0 y)
-  groups_next h =
-      let f : full_at t (4 * g) ≡ true = sym one.verdict ∙ h in (
-        x ++ three_at t (4 * g),
-        passed_next t x g p (omega arith) f,
-        one.bytes ∙ rw (eb, f, pick_yes) (pasted_next m x (three_at t (4 * g)) (3 * g) p.size (omega arith)),
-      )
-
-  -- the group is at fault
-  pub groups_stop : r ≡ false → Groups t n m g e
-  groups_stop h =
-      let f : full_at t (4 * g) ≡ false = sym one.verdict ∙ h in
-      record {
-        some_of = omega arith;
-        found = x;
-        passed = p;
-        bytes = one.bytes ∙ rw (f, pick_no) (pasted_none b (3 * g) ∙ eb);
-        stopped = λ l. f;
-      }
-
 -- a text in groups of four stores what it keeps
 stored_kept : (t : List ℕ) → length t % 4 ≡ 0 → stored t ≡ kept t
 unfolding stored
 stored_kept t h = rw (eq-eqb (length t % 4) 0 h) (pick_yes (kept t) [])
+
+-- the four characters from i on, read where they start
+full_there : (t : List ℕ) (i : ℕ) → full_at (from_on i t) 0 ≡ full_at t i
+full_there t i = rw rest_all (simp (get_or-drop, add-zero))
+
+-- their bytes
+three_there : (t : List ℕ) (i : ℕ) → three_at (from_on i t) 0 ≡ three_at t i
+three_there t i = rw rest_all (simp (get_or-drop, add-zero))
+
+-- the last group of a text, read where it starts
+final_there : (t : List ℕ) (i : ℕ) → final_at (from_on i t) 0 ≡ final_at t i
+final_there t i = rw rest_all (simp (get_or-drop, add-zero))
+
+-- a turn of the loop over groups: the bytes so far, then one group more, which starts where its characters and its bytes do
+module _ (t x : List ℕ) (g : ℕ) (m b e : List ℕ) (ht : 4 * g + 4 < length t) (hm : 3 * g ≤ length m)
+    (p : Passed t g x) (eb : b ≡ pasted m 0 x) where
+  -- the group is full
+  pub groups_next : Group (from_on (4 * g) t) (from_on (3 * g) b) true e → (y : List ℕ) × Passed t (g + 1) y × (part_now (3 * g) b e ≡ pasted m 0 y)
+  groups_next one =
+      let f : full_at t (4 * g) ≡ true = sym (full_there t (4 * g)) ∙ sym one.verdict in (
+        x ++ three_at t (4 * g),
+        passed_next t x g p ht f,
+        part_pasted b (3 * g) _ e one.bytes
+            ∙ rw (eb, full_there t (4 * g), f, pick_yes, three_there t (4 * g)) (pasted_next m x (three_at t (4 * g)) (3 * g) p.size hm),
+      )
+
+  -- the group is at fault
+  pub groups_stop : Group (from_on (4 * g) t) (from_on (3 * g) b) false e → length t % 4 ≡ 0 → Decodes t m None (part_now (3 * g) b e)
+  unfolding length_in
+  groups_stop one four =
+      let f : full_at t (4 * g) ≡ false = sym (full_there t (4 * g)) ∙ sym one.verdict in
+      let stop = passed_stop t x g p ht f in
+      record {
+        verdict = rw stop.1 refl;
+        bytes =
+            part_pasted b (3 * g) _ e one.bytes
+            ∙ rw (full_there t (4 * g), f, pick_no, stored_kept t four, stop.0) (pasted_none b (3 * g) ∙ eb);
+      }
 
 -- a text that is not in groups of four stores nothing
 stored_none : (t : List ℕ) → (length t % 4 ≡ 0 → ⊥) → stored t ≡ []
@@ -127,7 +144,7 @@ unfolding stored
 stored_none t h = rw (ne_eqb (length t % 4) 0 h) (pick_no (kept t) [])
 
 -- a text that is not in groups of four
-pub decodes_uneven : (t d : List ℕ) → (length t % 4 ≡ 0 → ⊥) → Decodes t d Bad d
+pub decodes_uneven : (t d : List ℕ) → (length t % 4 ≡ 0 → ⊥) → Decodes t d None d
 unfolding length_in
 decodes_uneven t d h = record { verdict = rw (by-case (decode t) refl) refl; bytes = rw (stored_none t h) (sym (pasted_none d 0)) }
   where
@@ -136,69 +153,58 @@ decodes_uneven t d h = record { verdict = rw (by-case (decode t) refl) refl; byt
     by-case (some x) e = absurd (h (decode_groups t x e))
 
 -- a text of no character
-pub decodes_empty : (t d : List ℕ) → length t ≡ 0 → Decodes t d Bad d
+pub decodes_empty : (t d : List ℕ) → length t ≡ 0 → Decodes t d None d
 unfolding length_in decode kept stored pick
 decodes_empty [] d h = record { verdict = refl; bytes = sym (pasted_none d 0) }
 decodes_empty (a ∷ t) d h = absurd (omega arith)
 
--- a text with a group at fault before the last
-pub decodes_broken : (t d e : List ℕ) (g r : ℕ) → length t ≡ 4 * g + 4 → Groups t g d r e → r < g → Decodes t d Bad e
-unfolding length_in
-decodes_broken t d e g r h w l =
-    let b = passed_stop t w.found r w.passed (omega arith) (w.stopped l) in
-    record { verdict = rw b.1 refl; bytes = w.bytes ∙ rw (stored_kept t (omega arith), b.0) refl }
+-- bytes before a last group are as many as both together
+length_whole : (x : List ℕ) (o : Option (List ℕ)) (n k : ℕ) → length x ≡ n → Some k ≡ length_in o → Some (n + k) ≡ length_in (ahead x o)
+unfolding length_in ahead
+length_whole x none n k h e = absurd cc
+length_whole x (some y) n k h e = let z : k ≡ length y = cc in ap Some (rw (length-append x y, h, z) refl)
 
--- bytes before a last group that has none are of a text that is not well formed
-length_bad : (x : List ℕ) (a b c d k : ℕ) → k ≡ length (bytes_in (final a b c d)) → k ≡ 0 → length_in (ahead x (final a b c d)) ≡ Bad
-unfolding length_in bytes_in ahead
-length_bad x a b c d k e z = by-case (final a b c d) refl (sym e ∙ z)
-  where
-    by-case : (o : Option (List ℕ)) → final a b c d ≡ o → length (bytes_in o) ≡ 0 → length_in (ahead x o) ≡ Bad
-    by-case none f l = refl
-    by-case (some y) f l = absurd (omega (arith, final_length a b c d y f))
-
--- bytes before a last group that has some are as many as both together
-length_good : (x : List ℕ) (o : Option (List ℕ)) (n k : ℕ) → length x ≡ n → k ≡ length (bytes_in o) → (k ≡ 0 → ⊥) → length_in (ahead x o) ≡ Bytes (n + k)
-unfolding length_in bytes_in ahead
-length_good x none n k h e z = absurd (z e)
-length_good x (some y) n k h e z = ap Bytes (length-append x y ∙ ap₂ (λ (p q : ℕ). p + q) h (sym e))
+-- bytes before a last group that is at fault are of a text that is not well formed
+length_none : (x : List ℕ) (o : Option (List ℕ)) → None ≡ length_in o → None ≡ length_in (ahead x o)
+unfolding length_in ahead
+length_none x none e = refl
+length_none x (some y) e = absurd cc
 
 -- a last group has three bytes at most
-pub last_most : (a b c d : ℕ) (m : List ℕ) (o k : ℕ) (e : List ℕ) → Last (final a b c d) m o k e → k ≤ 3
-unfolding bytes_in
-last_most a b c d m o k e l = rw l.count (by-case (final a b c d) refl)
+pub last_most : (a b c d : ℕ) (m : List ℕ) (k : ℕ) (e : List ℕ) → Last (final a b c d) m (Some k) e → k ≤ 3
+unfolding length_in
+last_most a b c d m k e l = by-case (final a b c d) refl l.count
   where
-    by-case : (x : Option (List ℕ)) → final a b c d ≡ x → length (bytes_in x) ≤ 3
-    by-case none f = omega arith
-    by-case (some y) f = (final_length a b c d y f).1
+    by-case : (x : Option (List ℕ)) → final a b c d ≡ x → Some k ≡ length_in x → k ≤ 3
+    by-case none f w = absurd cc
+    by-case (some y) f w = let z : k ≡ length y = cc in omega (arith, final_length a b c d y f)
 
 -- a text whose groups before the last are full
-module _ (t d b e : List ℕ) (g r k : ℕ) (h : length t ≡ 4 * g + 4) (room : 3 * g + 3 ≤ length d) (w : Groups t g d r b) (l : g ≤ r)
-    (last : Last (final_at t (4 * g)) b (3 * g) k e) where
-  -- all of them have passed
-  all_passed : Passed t g w.found
-  all_passed = let n : r ≡ g = omega (arith, w.some_of) in rw n at w.passed
-
+module _ (t d b e x : List ℕ) (g : ℕ) (r : answer.Option ℕ) (h : length t ≡ 4 * g + 4) (room : 3 * g + 3 ≤ length d)
+    (p : Passed t g x) (eb : b ≡ pasted d 0 x) (last : Last (final_at (from_on (4 * g) t) 0) (from_on (3 * g) b) r e) where
   -- what they and the last group make
-  parts : (kept t ≡ w.found ++ bytes_in (final_at t (4 * g))) × (decode t ≡ ahead w.found (final_at t (4 * g)))
-  parts = passed_last t w.found g all_passed h
+  parts : (kept t ≡ x ++ bytes_in (final_at t (4 * g))) × (decode t ≡ ahead x (final_at t (4 * g)))
+  parts = passed_last t x g p h
 
   -- every byte of the lent buffer
-  bytes_whole : e ≡ pasted d 0 (stored t)
+  bytes_whole : part_now (3 * g) b e ≡ pasted d 0 (stored t)
   bytes_whole =
-      rw (stored_kept t (omega arith), parts.0)
-      (last.bytes
-      ∙ ap (λ (l : List ℕ). pasted l (3 * g) (bytes_in (final_at t (4 * g)))) w.bytes
-      ∙ pasted_next d w.found (bytes_in (final_at t (4 * g))) (3 * g) all_passed.size (omega arith))
+      part_pasted b (3 * g) _ e last.bytes
+      ∙ rw (stored_kept t (omega arith), parts.0, eb, final_there t (4 * g))
+      (pasted_next d x (bytes_in (final_at t (4 * g))) (3 * g) p.size (omega arith))
 
   -- the last group is at fault
-  pub decodes_bad : k ≡ 0 → Decodes t d Bad e
-  decodes_bad z = record { verdict = rw parts.1 (sym (length_bad w.found _ _ _ _ k last.count z)); bytes = bytes_whole }
+  pub decodes_bad : r ≡ None → Decodes t d None (part_now (3 * g) b e)
+  decodes_bad z =
+      record {
+        verdict = rw parts.1 (length_none x (final_at t (4 * g)) (sym z ∙ last.count ∙ ap length_in (final_there t (4 * g))));
+        bytes = bytes_whole;
+      }
 
   -- the text is well formed
-  pub decodes_good : (k ≡ 0 → ⊥) → Decodes t d (Bytes (3 * g + k)) e
-  decodes_good z =
+  pub decodes_good : (k : ℕ) → r ≡ Some k → Decodes t d (Some (3 * g + k)) (part_now (3 * g) b e)
+  decodes_good k z =
       record {
-        verdict = rw parts.1 (sym (length_good w.found (final_at t (4 * g)) (3 * g) k all_passed.size last.count z));
+        verdict = rw parts.1 (length_whole x (final_at t (4 * g)) (3 * g) k p.size (sym z ∙ last.count ∙ ap length_in (final_there t (4 * g))));
         bytes = bytes_whole;
       }

@@ -15,7 +15,8 @@ use Rattle.laws.specs.Bytes.{pasted}
 use Rattle.laws.proofs.Choice.{pick_yes, pick_no, both_yes, both_no, both_last_no}
 use Rattle.laws.proofs.Lists.{pasted_none}
 use Rattle.strict_base64.specs.Base64.{value, pad, first, second, third, full, three, final}
-use Rattle.decoder.specs.Inner.{bytes_in, Group, Last, full_at, three_at, final_at}
+use Rattle.std.specs.Prelude.{None, Some}
+use Rattle.decoder.specs.Inner.{length_in, bytes_in, Group, Last, full_at, three_at, final_at}
 use Rattle.strict_base64.proofs.Laws.{known_all}
 
 -- a bitwise or is at least its first number
@@ -76,35 +77,35 @@ word_bytes : (a b c d : ℕ) → a < 64 → b < 64 → c < 64 → d < 64
 word_bytes a b c d ha hb hc hd = (omega arith, omega arith, omega arith)
 
 -- a group whose numbers are a, b, c and d: full, and its bytes stored
-module _ (t : List ℕ) (i : ℕ) (m : List ℕ) (o a b c d : ℕ) (ea : a ≡ value (get_or t i 0)) (eb : b ≡ value (get_or t (i + 1) 0))
-    (ec : c ≡ value (get_or t (i + 2) 0)) (ed : d ≡ value (get_or t (i + 3) 0)) where
-  pub group_good : o + 3 ≤ length m → bit_or (bit_or (bit_or a b) c) d < 64
-      → Group t i m o true (set (set (set m o (word a b c d / 65536)) (o + 1) (word a b c d / 256 % 256)) (o + 2) (word a b c d % 256))
+module _ (t m : List ℕ) (a b c d : ℕ) (ea : a ≡ value (get_or t 0 0)) (eb : b ≡ value (get_or t 1 0)) (ec : c ≡ value (get_or t 2 0))
+    (ed : d ≡ value (get_or t 3 0)) where
+  pub group_good : 3 ≤ length m → bit_or (bit_or (bit_or a b) c) d < 64
+      → Group t m true (set (set (set m 0 (word a b c d / 65536)) 1 (word a b c d / 256 % 256)) 2 (word a b c d % 256))
   unfolding three
   group_good h l =
-      let f : full_at t i ≡ true = full_yes _ _ _ _ (rw (ea, eb, ec, ed) at l) in
+      let f : full_at t 0 ≡ true = full_yes _ _ _ _ (rw (ea, eb, ec, ed) at l) in
       let k = or_all a b c d l in
       let w = word_bytes a b c d k.0 k.1 k.2 k.3 in
       record {
         verdict = sym f;
-        bytes = rw (w.0, w.1, w.2, f, pick_yes, ← ea, ← eb, ← ec, ← ed) (store_three m o (first a b) (second b c) (third c d) h);
+        bytes = rw (w.0, w.1, w.2, f, pick_yes, ← ea, ← eb, ← ec, ← ed) (store_three m 0 (first a b) (second b c) (third c d) h);
       }
 
   -- a group at fault: nothing stored
-  pub group_bad : 64 ≤ bit_or (bit_or (bit_or a b) c) d → Group t i m o false m
+  pub group_bad : 64 ≤ bit_or (bit_or (bit_or a b) c) d → Group t m false m
   group_bad l =
-      let f : full_at t i ≡ false = full_no _ _ _ _ (rw (ea, eb, ec, ed) at l) in
-      record { verdict = sym f; bytes = rw (f, pick_no) (sym (pasted_none m o)) }
+      let f : full_at t 0 ≡ false = full_no _ _ _ _ (rw (ea, eb, ec, ed) at l) in
+      record { verdict = sym f; bytes = rw (f, pick_no) (sym (pasted_none m 0)) }
 
 -- a last group at fault: no byte, nothing stored
-pub last_bad : (x : Option (List ℕ)) (m : List ℕ) (o : ℕ) → x ≡ none → Last x m o 0 m
-unfolding bytes_in
-last_bad x m o e = record { count = rw e refl; bytes = rw e (sym (pasted_none m o)) }
+pub last_bad : (x : Option (List ℕ)) (m : List ℕ) → x ≡ none → Last x m None m
+unfolding bytes_in length_in
+last_bad x m e = record { count = rw e refl; bytes = rw e (sym (pasted_none m 0)) }
 
 -- a last group that stands for the bytes y, which were stored
-pub last_good : (x : Option (List ℕ)) (y m : List ℕ) (o : ℕ) (e : List ℕ) → x ≡ some y → e ≡ pasted m o y → Last x m o (length y) e
-unfolding bytes_in
-last_good x y m o e s p = record { count = rw s refl; bytes = rw s p }
+pub last_good : (x : Option (List ℕ)) (y m e : List ℕ) → x ≡ some y → e ≡ pasted m 0 y → Last x m (Some (length y)) e
+unfolding bytes_in length_in
+last_good x y m e s p = record { count = rw s refl; bytes = rw s p }
 
 -- two characters and `==`: each fault, and none
 module _ (a b c d p q : ℕ) (ec : c ≡ pad) (ed : d ≡ pad) (ea : p ≡ value a) (eb : q ≡ value b) where
@@ -157,18 +158,18 @@ module _ (a b c d p q r : ℕ) (ec : c ≡ pad → ⊥) (ed : d ≡ pad) (ea : p
       rw (ed, ne_eqb c pad ec, ← ea, ← eb, ← er, lt-ltb p 64 hp, lt-ltb q 64 hq, lt-ltb r 64 hr, eq-eqb (r % 4) 0 z) (simp (both_yes, pick_yes, pick_no))
 
 -- a last group that is not filled up is a full group or at fault
-module _ (t : List ℕ) (i : ℕ) (m : List ℕ) (o : ℕ) (r : Bool) (e : List ℕ) (ed : get_or t (i + 3) 0 ≡ pad → ⊥) (g : Group t i m o r e) where
+module _ (t m e : List ℕ) (ed : get_or t 3 0 ≡ pad → ⊥) where
   -- it is full: three bytes
-  pub all_good : r ≡ true → Last (final_at t i) m o 3 e
+  pub all_good : Group t m true e → Last (final_at t 0) m (Some 3) e
   unfolding final three
-  all_good h =
-      let f : full_at t i ≡ true = sym g.verdict ∙ h in
-      last_good (final_at t i) (three_at t i) m o e (rw (ne_eqb (get_or t (i + 3) 0) pad ed, f) (simp (pick_yes, pick_no))) (g.bytes ∙ rw (f, pick_yes) refl)
+  all_good g =
+      let f : full_at t 0 ≡ true = sym g.verdict in
+      last_good (final_at t 0) (three_at t 0) m e (rw (ne_eqb (get_or t 3 0) pad ed, f) (simp (pick_yes, pick_no))) (g.bytes ∙ rw (f, pick_yes) refl)
 
   -- it is not: no byte
-  pub all_bad : r ≡ false → Last (final_at t i) m o 0 e
+  pub all_bad : Group t m false e → Last (final_at t 0) m None e
   unfolding final
-  all_bad h =
-      let f : full_at t i ≡ false = sym g.verdict ∙ h in
-      let same : e ≡ m = g.bytes ∙ rw (f, pick_no) (pasted_none m o) in
-      rw same (last_bad (final_at t i) m o (rw (ne_eqb (get_or t (i + 3) 0) pad ed, f) (simp pick_no)))
+  all_bad g =
+      let f : full_at t 0 ≡ false = sym g.verdict in
+      let same : e ≡ m = g.bytes ∙ rw (f, pick_no) (pasted_none m 0) in
+      rw same (last_bad (final_at t 0) m (rw (ne_eqb (get_or t 3 0) pad ed, f) (simp pick_no)))

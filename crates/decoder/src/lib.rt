@@ -1,16 +1,9 @@
 // Base64 from a text to a lent buffer, in one pass: a table is taken once a call and lent to a leaf that does one group.
 #![tactic(auto)]
 
-ghost use Rattle.std.specs.Prelude.{◌≡◌, ◌+◌, ◌*◌, ◌/◌, ◌≤◌, length, get_or};
+ghost use Rattle.std.specs.Prelude.{◌≡◌, ◌*◌, ◌/◌, ◌<◌, ◌≤◌, length, get_or, MatchOption, is_some};
 ghost use Rattle.strict_base64.specs.Base64.{value, pad};
-ghost use Rattle.decoder.specs.Inner.{Decodes, Values, Group, Groups, Last, final_at};
-
-// What a text decodes to: this many bytes, or it is not well formed.
-#[derive(Clone, Copy)]
-pub enum Decoded {
-    Bytes(usize),
-    Bad,
-}
+ghost use Rattle.decoder.specs.Inner.{Decodes, Values, Group, Last, final_at};
 
 // The number that each byte stands for as a character, 64 where it stands for none.
 const VALUES: [u8; 256] = *b"\
@@ -32,153 +25,125 @@ const VALUES: [u8; 256] = *b"\
     \x40\x40\x40\x40\x40\x40\x40\x40\x40\x40\x40\x40\x40\x40\x40\x40\
     ";
 
-// The table of the numbers.
-pub fn values() -> [u8; 256]
-    ensures { Values result }
-{
-    VALUES
+// The table of the numbers: for each byte the number that it stands for as a character.
+#[derive(Drop)]
+pub struct Table {
+    numbers: [u8; 256],
+    ghost each: { Values numbers },
 }
 
-// The number that a character stands for, 64 where it stands for none.
-pub fn look(table: &[u8; 256], c: u8) -> u8
-    requires { Values table.now }
-    ensures { result ≡ value c }
-{
-    table[c as usize]
-}
-
-// Decodes the four characters from i on to three bytes at o, by one word of 24 bits, where all four stand for numbers; else nothing is
-// stored.
-fn group(table: &[u8; 256], text: &[u8], i: usize, out: &mut [u8], o: usize) -> bool
-    requires values { Values table.now }
-    requires i_in_bounds { i + 4 ≤ length text.now }
-    requires o_in_bounds { o + 3 ≤ length out.old }
-    ensures { Group text.now i out.old o result out.new }
-{
-    let a = look(table, text[i]);
-    let b = look(table, text[i + 1]);
-    let c = look(table, text[i + 2]);
-    let d = look(table, text[i + 3]);
-    if (a | b | c | d) < 64 {
-        let w = (a as u32) * 262144 + (b as u32) * 4096 + (c as u32) * 64 + (d as u32);
-        out[o] = (w / 65536) as u8;
-        out[o + 1] = (w / 256 % 256) as u8;
-        out[o + 2] = (w % 256) as u8;
-        return true;
+impl Table {
+    // The table, as it stands in the program.
+    pub fn new() -> Self {
+        Table { numbers: VALUES }
     }
-    false
-}
 
-// Decodes groups from the start until one is at fault or n are done, and gives how many were good.
-fn groups(table: &[u8; 256], text: &[u8], n: usize, out: &mut [u8]) -> usize
-    requires values { Values table.now }
-    requires n_in_bounds { 4 * n + 4 ≤ length text.now }
-    requires n_in_bounds_2 { 3 * n ≤ length out.old }
-    ensures { Groups text.now n out.old result out.new }
-{
-    let mut g = 0;
-    while g < n {
-        if !group(table, text, 4 * g, out, 3 * g) {
-            return g;
+    // The number that a character stands for, 64 where it stands for none.
+    pub fn look(&self, c: u8) -> u8
+        ensures { result ≡ value c }
+    {
+        self.numbers[usize::from(c)]
+    }
+
+    // The number that a character stands for, or that it stands for none.
+    pub fn number(&self, c: u8) -> Option<u8>
+        ensures { MatchOption result (64 ≤ value c) (λ v. (v ≡ value c) × (v < 64)) }
+    {
+        let v = self.look(c);
+        if v < 64 { Some(v) } else { None }
+    }
+
+    // The lengths of both parts stand in each contract from here on: they are parts of slices, out of which no array can be lent to be written.
+    // Decodes the first four characters to the first three bytes, by one word of 24 bits, where all four stand for numbers; else nothing is
+    // stored.
+    fn group(&self, text: &[u8], out: &mut [u8]) -> Option<()>
+        requires text_bound { 4 ≤ length text.now }
+        requires out_bound { 3 ≤ length out.old }
+        ensures { Group text.now out.old (is_some result) out.new }
+    {
+        // By look and not by number: the four numbers are tested at once, by their bitwise or; a test of each takes five instructions more.
+        let a = self.look(text[0]);
+        let b = self.look(text[1]);
+        let c = self.look(text[2]);
+        let d = self.look(text[3]);
+        if a | b | c | d >= 64 {
+            return None;
         }
-        g += 1;
+        let w = u32::from(a) * 262144 + u32::from(b) * 4096 + u32::from(c) * 64 + u32::from(d);
+        out[0] = (w / 65536) as u8;
+        out[1] = (w / 256 % 256) as u8;
+        out[2] = (w % 256) as u8;
+        Some(())
     }
-    n
-}
 
-// Decodes a last group of two characters and `==` to one byte at o, and gives how many bytes: none where it is at fault.
-fn last_one(table: &[u8; 256], text: &[u8], i: usize, out: &mut [u8], o: usize) -> usize
-    requires values { Values table.now }
-    requires i_in_bounds { i + 4 ≤ length text.now }
-    requires o_in_bounds { o + 3 ≤ length out.old }
-    requires i_value { get_or text.now (i + 2) 0 ≡ pad }
-    requires i_value_2 { get_or text.now (i + 3) 0 ≡ pad }
-    ensures { Last (final_at text.now i) out.old o result out.new }
-{
-    let a = look(table, text[i]);
-    if a >= 64 {
-        return 0;
-    }
-    let b = look(table, text[i + 1]);
-    if b >= 64 {
-        return 0;
-    }
-    if b % 16 != 0 {
-        return 0;
-    }
-    out[o] = a * 4 + b / 16;
-    1
-}
-
-// Decodes a last group of three characters and `=` to two bytes at o, and gives how many bytes: none where it is at fault.
-fn last_two(table: &[u8; 256], text: &[u8], i: usize, out: &mut [u8], o: usize) -> usize
-    requires values { Values table.now }
-    requires i_in_bounds { i + 4 ≤ length text.now }
-    requires o_in_bounds { o + 3 ≤ length out.old }
-    requires fact { get_or text.now (i + 2) 0 ≡ pad → ⊥ }
-    requires i_value { get_or text.now (i + 3) 0 ≡ pad }
-    ensures { Last (final_at text.now i) out.old o result out.new }
-{
-    let a = look(table, text[i]);
-    if a >= 64 {
-        return 0;
-    }
-    let b = look(table, text[i + 1]);
-    if b >= 64 {
-        return 0;
-    }
-    let c = look(table, text[i + 2]);
-    if c >= 64 {
-        return 0;
-    }
-    if c % 4 != 0 {
-        return 0;
-    }
-    out[o] = a * 4 + b / 16;
-    out[o + 1] = b % 16 * 16 + c / 4;
-    2
-}
-
-// Decodes the last group to the bytes at o, and gives how many: none where it is at fault.
-fn last(table: &[u8; 256], text: &[u8], i: usize, out: &mut [u8], o: usize) -> usize
-    requires values { Values table.now }
-    requires i_in_bounds { i + 4 ≤ length text.now }
-    requires o_in_bounds { o + 3 ≤ length out.old }
-    ensures { Last (final_at text.now i) out.old o result out.new }
-{
-    if text[i + 3] == b'=' {
-        if text[i + 2] == b'=' {
-            return last_one(table, text, i, out, o);
+    // Decodes a last group of two characters and `==` to one byte, and gives how many bytes, unless it is at fault.
+    fn last_one(&self, text: &[u8], out: &mut [u8]) -> Option<usize>
+        requires text_bound { 4 ≤ length text.now }
+        requires out_bound { 3 ≤ length out.old }
+        requires third { get_or text.now 2 0 ≡ pad }
+        requires fourth { get_or text.now 3 0 ≡ pad }
+        ensures { Last (final_at text.now 0) out.old result out.new }
+    {
+        let a = self.number(text[0])?;
+        let b = self.number(text[1])?;
+        if b % 16 != 0 {
+            return None;
         }
-        return last_two(table, text, i, out, o);
+        out[0] = a * 4 + b / 16;
+        Some(1)
     }
-    if group(table, text, i, out, o) {
-        return 3;
+
+    // Decodes a last group of three characters and `=` to two bytes, and gives how many bytes, unless it is at fault.
+    fn last_two(&self, text: &[u8], out: &mut [u8]) -> Option<usize>
+        requires text_bound { 4 ≤ length text.now }
+        requires out_bound { 3 ≤ length out.old }
+        requires third { get_or text.now 2 0 ≡ pad → ⊥ }
+        requires fourth { get_or text.now 3 0 ≡ pad }
+        ensures { Last (final_at text.now 0) out.old result out.new }
+    {
+        let a = self.number(text[0])?;
+        let b = self.number(text[1])?;
+        let c = self.number(text[2])?;
+        if c % 4 != 0 {
+            return None;
+        }
+        out[0] = a * 4 + b / 16;
+        out[1] = b % 16 * 16 + c / 4;
+        Some(2)
     }
-    0
+
+    // Decodes the last group, and gives how many bytes, unless it is at fault.
+    fn last(&self, text: &[u8], out: &mut [u8]) -> Option<usize>
+        requires text_bound { 4 ≤ length text.now }
+        requires out_bound { 3 ≤ length out.old }
+        ensures { Last (final_at text.now 0) out.old result out.new }
+    {
+        if text[3] == b'=' {
+            if text[2] == b'=' {
+                return self.last_one(text, out);
+            }
+            return self.last_two(text, out);
+        }
+        self.group(text, out)?;
+        Some(3)
+    }
 }
 
-// Decodes a text to the start of out, in one pass: the answer is how many bytes it stands for, or that it is not well formed.
-pub fn decode(text: &[u8], out: &mut [u8]) -> Decoded
+// Decodes a text to the start of out, in one pass: the answer is how many bytes it stands for, unless it is not well formed.
+pub fn decode(text: &[u8], out: &mut [u8]) -> Option<usize>
     requires { length text.now / 4 * 3 ≤ length out.old }
     ensures { Decodes text.now out.old result out.new }
 {
     let n = text.len();
-    if n % 4 != 0 {
-        return Decoded::Bad;
+    if n == 0 || n % 4 != 0 {
+        return None;
     }
-    if n == 0 {
-        return Decoded::Bad;
-    }
-    let table = values();
+    let table = Table::new();
     let before = n / 4 - 1;
-    let good = groups(&table, text, before, out);
-    if good < before {
-        return Decoded::Bad;
+    // By ranges and not by chunks: the library has no `chunks_exact_mut`, and of `chunks_mut` a proof learns nothing about the elements.
+    for g in 0..before {
+        table.group(&text[4 * g..], &mut out[3 * g..])?;
     }
-    let k = last(&table, text, 4 * before, out, 3 * before);
-    if k == 0 {
-        return Decoded::Bad;
-    }
-    Decoded::Bytes(3 * before + k)
+    let k = table.last(&text[4 * before..], &mut out[3 * before..])?;
+    Some(3 * before + k)
 }

@@ -3,25 +3,24 @@
 -- is read off the outcome in one way only. (The calls of the C interface, and the replay, promise the record of all that they return and leave itself,
 -- so nothing is left to show of them.)
 -- Assumes nothing.
-use Rattle.std.specs.Prelude.{ℕ, ◌≡◌, List}
+use Rattle.std.specs.Prelude.{ℕ, ◌≡◌, List, Option, Result}
+use Rattle.refusal.specs.declared.Refusal.{Refusal}
 use Rattle.collector.specs.declared.Step.{Step}
 use Rattle.collector.specs.Collector as collecting
 use Rattle.reader.specs.declared.Taken.{Taken}
 use Rattle.reader.specs.Reader as reading
 use Rattle.sender.specs.declared.Sent.{Sent}
 use Rattle.sender.specs.Sender as sending
-use Rattle.session.specs.declared.Configured.{Configured}
+use Rattle.session.specs.declared.Layout.{Layout}
 use Rattle.session.specs.Session as slots
 use Rattle.controller.specs.declared.Handled.{Handled}
 use Rattle.controller.specs.Handle as handling
-use Rattle.host.specs.declared.Written.{Written}
 use Rattle.host.specs.Write as writing
-use Rattle.replies.specs.declared.Heard.{Heard}
+use Rattle.replies.specs.declared.Reply.{Reply}
 use Rattle.replies.specs.Read as hearing
 use Rattle.recording.specs.declared.First.{First}
-use Rattle.recording.specs.declared.Step as found
+use Rattle.recording.specs.declared.Record.{Record}
 use Rattle.recording.specs.Recording as recording
-use Rattle.transcript.specs.declared.Text.{Text}
 use Rattle.transcript.specs.Transcript as printing
 
 -- a promise `f a ≡ o` determines a
@@ -38,11 +37,11 @@ LineDetermined = Determines {A = Taken × List ℕ} {O = reading.Outcome} (λ x.
 
 -- send_frame: the answer, and the output
 abbrev pub FrameDetermined : Type 0
-FrameDetermined = Determines {A = Sent × List ℕ} {O = sending.Outcome} (λ x. sending.outcome x.0 x.1)
+FrameDetermined = Determines {A = Result Sent Refusal × List ℕ} {O = sending.Outcome} (λ x. sending.outcome x.0 x.1)
 
 -- configure: the answer
 abbrev pub ConfiguredDetermined : Type 0
-ConfiguredDetermined = Determines {A = Configured} {O = slots.Said} slots.said
+ConfiguredDetermined = Determines {A = Result Layout Refusal} {O = slots.Said} slots.said
 
 -- handle_packet: the answer with the session record, the memory, the tag and the reply buffer
 abbrev pub HandledDetermined : Type 0
@@ -50,20 +49,20 @@ HandledDetermined = Determines {A = Handled × List ℕ × List ℕ × List ℕ}
 
 -- the request writers: the answer, and the output
 abbrev pub WrittenDetermined : Type 0
-WrittenDetermined = Determines {A = Written × List ℕ} {O = writing.Outcome} (λ x. writing.outcome x.0 x.1)
+WrittenDetermined = Determines {A = Result ℕ Refusal × List ℕ} {O = writing.Outcome} (λ x. writing.outcome x.0 x.1)
 
 -- read_reply: the answer
 abbrev pub HeardDetermined : Type 0
-HeardDetermined = Determines {A = Heard} {O = hearing.Said} hearing.said
+HeardDetermined = Determines {A = Result Reply Refusal} {O = hearing.Said} hearing.said
 
 -- first_record: the answer
 abbrev pub FirstDetermined : Type 0
-FirstDetermined = Determines {A = First} {O = recording.Begun} recording.begun
+FirstDetermined = Determines {A = Result First Refusal} {O = recording.Begun} recording.begun
 
 -- read_at, and the recording reader: the answer
 abbrev pub FoundDetermined : Type 0
-FoundDetermined = Determines {A = found.Step} {O = recording.Said} recording.said
+FoundDetermined = Determines {A = Result (Option Record) Refusal} {O = recording.Said} recording.said
 
 -- write_transcript: the answer, and the output
 abbrev pub TextDetermined : Type 0
-TextDetermined = Determines {A = Text × List ℕ} {O = printing.Outcome} (λ x. record { says = printing.said x.0; out = x.1 })
+TextDetermined = Determines {A = Result ℕ Refusal × List ℕ} {O = printing.Outcome} (λ x. record { says = printing.said x.0; out = x.1 })

@@ -11,6 +11,7 @@ use lib.Dec.{ltb, lit<, lit≤}
 use lib.ListN.{length, take}
 use Rattle.laws.specs.Choice.{pick}
 use Rattle.laws.specs.Bytes.{Bytes}
+use Rattle.std.specs.Prelude.{Option, Some, None, Result, Ok, Err}
 use Rattle.laws.specs.declared.Run.{Run}
 use Rattle.laws.proofs.Choice.{pick_no, pick_case, both_true}
 use Rattle.reason.specs.declared.Reason.{Reason}
@@ -26,7 +27,6 @@ use Rattle.slot.specs.Act.{done}
 use Rattle.session.proofs.Laws.{layout_bounds}
 use Rattle.smp.specs.declared.Header.{Header}
 use Rattle.requests.specs.declared.Request.{Request}
-use Rattle.requests.specs.declared.Reading.{Reading}
 use Rattle.smp.specs.declared.Reply.{Reply as Answered}
 use Rattle.smp.specs.Packet.{header_in_def}
 use Rattle.requests.specs.Request.{read_request_def}
@@ -70,12 +70,12 @@ placed_sendable : (p : List ℕ) (n : ℕ) → n < 4294967296 → 8 + length (re
 placed_sendable p n h = omega (arith, placed_map p n, head_word 0 n h)
 
 -- nor is one to an upload
-upload_sendable : (p : List ℕ) (q : Plan) (after : State) → Sayable p (reply_to_def q after) → Sendable p (reply_to_def q after)
+upload_sendable : (p : List ℕ) (q : Result Plan Reason) (after : State) → Sayable p (reply_to_def q after) → Sendable p (reply_to_def q after)
 unfolding Sendable reply_to_def reply_map
-upload_sendable p (Plan.Refuse why) after can = rc_sendable (rc_of_def why) (rc_byte why)
-upload_sendable p (Plan.Tell n) after can = placed_sendable p n can
-upload_sendable p Plan.Append after can = placed_sendable p after.session.place can
-upload_sendable p (Plan.Start l) after can = placed_sendable p after.session.place can
+upload_sendable p (Err why) after can = rc_sendable (rc_of_def why) (rc_byte why)
+upload_sendable p (Ok (Plan.Tell n)) after can = placed_sendable p n can
+upload_sendable p (Ok Plan.Append) after can = placed_sendable p after.session.place can
+upload_sendable p (Ok (Plan.Start l)) after can = placed_sendable p after.session.place can
 
 -- a response that is no list can be said and sent
 unfoldable Tellable : List ℕ → Response → Type 0
@@ -83,18 +83,18 @@ Tellable p (Response.Reply a) = Sayable p a × Sendable p a
 Tellable p Response.Images = Unit {0}
 
 -- so can that to any request, as an echo's is no longer than its request
-answer_tellable : (slot : Slot) (st after : State) (p : List ℕ) (r : Request) → Bytes p → read_request_def p ≡ Reading.Is r
+answer_tellable : (slot : Slot) (st after : State) (p : List ℕ) (r : Result Request Reason) → Bytes p → read_request_def p ≡ Some r
     → Answerable p (response_for slot st after p r)
     → Tellable p (response_for slot st after p r)
 unfolding Tellable Sendable response_for reply_map
-answer_tellable slot st after p (Request.Answer why) bytes e can = (can, rc_sendable (rc_of_def why) (rc_byte why))
-answer_tellable slot st after p (Request.Echo start len) bytes e can =
-    let m = echo_no_longer p start len bytes e in
-    (can, omega (arith, m, (request_sized p (Request.Echo start len) e).1))
-answer_tellable slot st after p Request.Reset bytes e can = (can, rc_sendable 0 (lit< tt))
-answer_tellable slot st after p Request.Images bytes e can = tt
-answer_tellable slot st after p (Request.Upload u) bytes e can = (can, upload_sendable p (plan_of slot st p u) after can)
-answer_tellable slot st after p Request.Erase bytes e can = (can, rc_sendable 0 (lit< tt))
+answer_tellable slot st after p (Err why) bytes e can = (can, rc_sendable (rc_of_def why) (rc_byte why))
+answer_tellable slot st after p (Ok (Request.Echo text)) bytes e can =
+    let m = echo_no_longer p text bytes e in
+    (can, omega (arith, m, (request_sized p (Ok (Request.Echo text)) e).1))
+answer_tellable slot st after p (Ok Request.Reset) bytes e can = (can, rc_sendable 0 (lit< tt))
+answer_tellable slot st after p (Ok Request.Images) bytes e can = tt
+answer_tellable slot st after p (Ok (Request.Upload u)) bytes e can = (can, upload_sendable p (plan_of slot st p u) after can)
+answer_tellable slot st after p (Ok Request.Erase) bytes e can = (can, rc_sendable 0 (lit< tt))
 
 -- and the answer that goes into the buffer, which may be rc 7 instead
 in_tellable : (layout : Layout) (m p : List ℕ) (x : Response) (room : ℕ) → Tellable p x → Tellable p (answer_in layout m p x room)
@@ -105,8 +105,8 @@ in_tellable layout m p x room other =
     (λ e. other)
 
 -- a request that is answered
-module _ (layout : Layout) (st : State) (p b : List ℕ) (r : Request) (can : possible layout st ≡ true) (room : 32 ≤ length b)
-    (e : read_request_def p ≡ Reading.Is r) where
+module _ (layout : Layout) (st : State) (p b : List ℕ) (r : Result Request Reason) (can : possible layout st ≡ true) (room : 32 ≤ length b)
+    (e : read_request_def p ≡ Some r) where
   -- the state after it is that after its act
   state_done : (handle layout st p b).state ≡ done layout.slot1 (act_for layout.slot1 st p r) st
   unfolding handled act_by
@@ -124,7 +124,8 @@ module _ (layout : Layout) (st : State) (p b : List ℕ) (r : Request) (can : po
   answered = answer_in layout (handle layout st p b).state.memory p (response_for layout.slot1 st (handle layout st p b).state p r) (length b)
 
   -- where it is no list: the call says how long its packet is, and the packet stands at the buffer's start
-  written : (a : Answered) → answered ≡ Response.Reply a → ((handle layout st p b).says ≡ said_by (request r) (length (reply_packet (header_in_def p) (reply_map p a))))
+  written : (a : Answered) → answered ≡ Response.Reply a
+      → ((handle layout st p b).says ≡ said_by (request r) (length (reply_packet (header_in_def p) (reply_map p a))))
       × (take (length (reply_packet (header_in_def p) (reply_map p a))) (handle layout st p b).reply ≡ reply_packet (header_in_def p) (reply_map p a))
   unfolding bytes_by response_map
   written a is =
@@ -134,11 +135,11 @@ module _ (layout : Layout) (st : State) (p b : List ℕ) (r : Request) (can : po
       (bytes_in_lem layout (header_in_def p) o.state.memory p (response_for layout.slot1 st o.state p r) (length b)
       ∙ ap (λ (x : Response). reply_packet (header_in_def p) (response_map layout o.state.memory p x)) is)
       (subst
-      (λ (q : Request). (o.says ≡ said_by (request q) (length (bytes_by layout st o.state p (length b) (request q))))
+      (λ (q : Result Request Reason). (o.says ≡ said_by (request q) (length (bytes_by layout st o.state p (length b) (request q))))
       × (take (length (bytes_by layout st o.state p (length b) (request q))) o.reply ≡ bytes_by layout st o.state p (length b) (request q)))
       (one (sym known.read ∙ e)) (known.says, known.bytes))
     where
-      one : {a : Request} → Reading.Is a ≡ Reading.Is r → a ≡ r
+      one : {a : Result Request Reason} → Some a ≡ Some r → a ≡ r
       one same = cc
 
   -- the host reads it as it was meant
@@ -157,7 +158,8 @@ module _ (layout : Layout) (st : State) (p b : List ℕ) (r : Request) (can : po
           read =
               ap read_reply_def w.1
               ∙ m.1
-              ∙ ap (λ (k : ℕ). reply (record { header = reply_header_def (header_in_def p) k; rc = rc_meant a; off = off_meant a; text = text_meant a m.0 })) size;
+              ∙ ap (λ (k : ℕ).
+              reply (record { header = reply_header_def (header_in_def p) k; rc = rc_meant a; off = off_meant a; text = text_meant a m.0 })) size;
           text = subst (λ (l : List ℕ). TextIs p a l m.0) (sym w.1) m.2;
         },
       )
@@ -180,21 +182,21 @@ unfolding reply_map
 refused_fits p why room h = rc_fits (rc_of_def why) room (rc_byte why) h
 
 -- so does the answer to an upload
-upload_fits : (layout : Layout) (m p : List ℕ) (q : Plan) (after : State) (room : ℕ) → Sayable p (reply_to_def q after) → 32 ≤ room
+upload_fits : (layout : Layout) (m p : List ℕ) (q : Result Plan Reason) (after : State) (room : ℕ) → Sayable p (reply_to_def q after) → 32 ≤ room
     → answer_in layout m p (Response.Reply (reply_to_def q after)) room ≡ Response.Reply (reply_to_def q after)
 unfolding answer_in reply_to_def response_map
-upload_fits layout m p (Plan.Refuse why) after room can h = rw (refused_fits p why room h, pick_no) refl
-upload_fits layout m p (Plan.Tell n) after room can h = rw (placed_fits p n room can h, pick_no) refl
-upload_fits layout m p Plan.Append after room can h = rw (placed_fits p after.session.place room can h, pick_no) refl
-upload_fits layout m p (Plan.Start l) after room can h = rw (placed_fits p after.session.place room can h, pick_no) refl
+upload_fits layout m p (Err why) after room can h = rw (refused_fits p why room h, pick_no) refl
+upload_fits layout m p (Ok (Plan.Tell n)) after room can h = rw (placed_fits p n room can h, pick_no) refl
+upload_fits layout m p (Ok Plan.Append) after room can h = rw (placed_fits p after.session.place room can h, pick_no) refl
+upload_fits layout m p (Ok (Plan.Start l)) after room can h = rw (placed_fits p after.session.place room can h, pick_no) refl
 
 -- it has no text
-upload_textless : (q : Plan) (after : State) (start : ℕ) → text_meant (reply_to_def q after) start ≡ Run.Absent
+upload_textless : (q : Result Plan Reason) (after : State) (start : ℕ) → text_meant (reply_to_def q after) start ≡ None
 unfolding reply_to_def text_meant
-upload_textless (Plan.Refuse why) after start = refl
-upload_textless (Plan.Tell n) after start = refl
-upload_textless Plan.Append after start = refl
-upload_textless (Plan.Start l) after start = refl
+upload_textless (Err why) after start = refl
+upload_textless (Ok (Plan.Tell n)) after start = refl
+upload_textless (Ok Plan.Append) after start = refl
+upload_textless (Ok (Plan.Start l)) after start = refl
 
 -- an upload that was written is answered by its plan, and the host reads that answer
 pub upload_exchange : UploadExchange
@@ -207,23 +209,24 @@ upload_exchange layout st sequence x off size tag out b k can room e =
     let u : Upload = got.0 in
     let is : UploadIs sequence x off size tag p u = got.1 in
     let a : Answered = reply_to_def (plan_of slot st p u) o.state in
-    let sayable : Sayable p a = answerable layout st p b (Request.Upload u) can room is.read in
+    let sayable : Sayable p a = answerable layout st p b (Ok (Request.Upload u)) can room is.read in
     let fits = upload_fits layout o.state.memory p (plan_of slot st p u) o.state (length b) sayable room in
     let group : (header_in_def p).group < 65536 = subst (λ (n : ℕ). n < 65536) (sym (ap (λ (h : Header). h.group) is.header)) (lit< tt) in
     let way =
-    exchanged layout st p b (Request.Upload u) can room is.read a fits group sayable (upload_sendable p (plan_of slot st p u) o.state sayable) in
+    exchanged layout st p b (Ok (Request.Upload u)) can room is.read a fits group sayable (upload_sendable p (plan_of slot st p u) o.state sayable) in
     let n : ℕ = way.0 in
-    let done-so : Exchanged p (Request.Upload u) a o n way.1 = way.2 in (
+    let done-so : Exchanged p (Ok (Request.Upload u)) a o n way.1 = way.2 in (
       u,
       n,
       record {
         meant = is;
-        state = state_done layout st p b (Request.Upload u) can room is.read;
+        state = state_done layout st p b (Ok (Request.Upload u)) can room is.read;
         says = done-so.says;
         read =
             done-so.read
-            ∙ ap (λ (h : Header). reply (record { header = reply_header_def h (n - 8); rc = rc_meant a; off = off_meant a; text = text_meant a way.1 })) is.header
-            ∙ ap (λ (t : Run). reply (record {
+            ∙ ap (λ (h : Header).
+            reply (record { header = reply_header_def h (n - 8); rc = rc_meant a; off = off_meant a; text = text_meant a way.1 })) is.header
+            ∙ ap (λ (t : Option Run). reply (record {
               header = record { op = 3; flags = 0; length = n - 8; group = 1; sequence = sequence; command = 1 };
               rc = rc_meant a;
               off = off_meant a;

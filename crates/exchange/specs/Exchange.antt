@@ -1,10 +1,9 @@
 -- Both ends of an exchange: what the request call leaves in the reply buffer, the host reads as it was meant; and the whole way of an upload,
 -- from the host's writer to the host's reader.
 -- Assumes nothing.
-use Rattle.std.specs.Prelude.{ℕ, ◌+◌, ◌-◌, ◌≤◌, ◌≡◌, true, List, ltb, length, take}
+use Rattle.std.specs.Prelude.{ℕ, ◌+◌, ◌-◌, ◌≤◌, ◌≡◌, true, List, ltb, length, take, Some, None, Result}
 use Rattle.laws.specs.Choice.{pick}
 use Rattle.laws.specs.Bytes.{Bytes}
-use Rattle.laws.specs.declared.Run.{Run}
 use Rattle.reason.specs.declared.Reason.{Reason}
 use Rattle.session.specs.declared.Slot.{Slot}
 use Rattle.session.specs.declared.Layout.{Layout}
@@ -13,7 +12,6 @@ use Rattle.session.specs.Session.{State, possible}
 use Rattle.rules.specs.Plan.{plan_of}
 use Rattle.slot.specs.Act.{done, act_of}
 use Rattle.requests.specs.declared.Request.{Request}
-use Rattle.requests.specs.declared.Reading.{Reading}
 use Rattle.smp.specs.declared.Reply.{Reply as Answered}
 use Rattle.smp.specs.Packet.{header_in_def}
 use Rattle.requests.specs.Request.{read_request_def}
@@ -33,7 +31,7 @@ answer_in layout m p x room = pick (ltb room (8 + length (response_map layout m 
 
 -- the call with the outcome o, for the request r of the packet p, says that it wrote n bytes, and the host reads them as the answer a to that
 -- packet: op plus 1, its group, sequence number and command, and the return code, the offset and the text that were meant
-pub record Exchanged (p : List ℕ) (r : Request) (a : Answered) (o : Outcome) (n start : ℕ) : Type 0 where
+pub record Exchanged (p : List ℕ) (r : Result Request Reason) (a : Answered) (o : Outcome) (n start : ℕ) : Type 0 where
   pub says : o.says ≡ said_by (request r) n
   pub read : read_reply_def (take n o.reply)
       ≡ reply (record { header = reply_header_def (header_in_def p) (n - 8); rc = rc_meant a; off = off_meant a; text = text_meant a start })
@@ -42,8 +40,8 @@ pub record Exchanged (p : List ℕ) (r : Request) (a : Answered) (o : Outcome) (
 -- of every request that is not refused, the host reads the reply as it was meant, but for a list, which is none that it knows
 abbrev pub Exchange : Type 0
 Exchange =
-    (layout : Layout) (st : State) (p b : List ℕ) (r : Request) (a : Answered) → possible layout st ≡ true → 32 ≤ length b → Bytes p
-    → read_request_def p ≡ Reading.Is r
+    (layout : Layout) (st : State) (p b : List ℕ) (r : Result Request Reason) (a : Answered) → possible layout st ≡ true → 32 ≤ length b → Bytes p
+    → read_request_def p ≡ Some r
     → answer_in layout (handle layout st p b).state.memory p (response_for layout.slot1 st (handle layout st p b).state p r) (length b)
     ≡ Response.Reply a
     → (n : ℕ) × (start : ℕ) × Exchanged p r a (handle layout st p b) n start
@@ -60,7 +58,7 @@ pub record UploadAnswered (slot : Slot) (st : State) (sequence : ℕ) (x : List 
         header = record { op = 3; flags = 0; length = n - 8; group = 1; sequence = sequence; command = 1 };
         rc = rc_meant (reply_to_def (plan_of slot st p u) o.state);
         off = off_meant (reply_to_def (plan_of slot st p u) o.state);
-        text = Run.Absent;
+        text = None;
       })
 
 -- of every upload that was written, where the regions and the record are possible and the reply buffer is of 32 bytes or more

@@ -3,21 +3,20 @@
 #![tactic(auto)]
 
 ghost use Rattle.std.specs.Prelude.{◌≡◌};
-ghost use Rattle.decoder.specs.Inner.{Values};
 ghost use Rattle.fault.specs.Fault.{Place, standing};
 
+use decoder::Table;
+
 // How many characters of a group of four can stand there, each after those before it; 0 is a missing one.
-fn standing(table: &[u8; 256], a: u8, b: u8, c: u8, d: u8) -> usize
-    requires { Values table.now }
+fn standing(table: &Table, a: u8, b: u8, c: u8, d: u8) -> usize
     ensures { result ≡ standing a b c d }
 {
-    if decoder::look(table, a) >= 64 {
+    let Some(_) = table.number(a) else {
         return 0;
-    }
-    let q = decoder::look(table, b);
-    if q >= 64 {
+    };
+    let Some(q) = table.number(b) else {
         return 1;
-    }
+    };
     if c == b'=' {
         if q % 16 != 0 {
             return 2;
@@ -27,19 +26,18 @@ fn standing(table: &[u8; 256], a: u8, b: u8, c: u8, d: u8) -> usize
         }
         return 4;
     }
-    let r = decoder::look(table, c);
-    if r >= 64 {
+    let Some(r) = table.number(c) else {
         return 2;
-    }
+    };
     if d == b'=' {
         if r % 4 != 0 {
             return 3;
         }
         return 4;
     }
-    if decoder::look(table, d) >= 64 {
+    let Some(_) = table.number(d) else {
         return 3;
-    }
+    };
     4
 }
 
@@ -47,22 +45,18 @@ fn standing(table: &[u8; 256], a: u8, b: u8, c: u8, d: u8) -> usize
 pub fn place(text: &[u8]) -> usize
     ensures { Place text.now result }
 {
-    let table = decoder::values();
-    let n = text.len();
-    let mut i = 0;
-    while i < n {
-        let a = text[i];
+    let table = Table::new();
+    for i in (0..text.len()).step_by(4) {
         let b = laws::byte_at(text, i + 1);
         let c = laws::byte_at(text, i + 2);
         let d = laws::byte_at(text, i + 3);
-        let k = standing(&table, a, b, c, d);
+        let k = standing(&table, text[i], b, c, d);
         if k < 4 {
             return i + k;
         }
         if d == b'=' {
             return i + 4;
         }
-        i += 4;
     }
-    n
+    text.len()
 }

@@ -1,12 +1,12 @@
 -- Lines fed to a controller on a bench, by hand: each goes to the call that takes a line, and each packet that this completes to the request call. What is
 -- said of each line, and what it leaves.
 -- Assumes nothing.
-use Rattle.std.specs.Prelude.{ℕ, List, [], ◌∷◌, eqb, take, get_or, replicate}
+use Rattle.std.specs.Prelude.{ℕ, List, [], ◌∷◌, eqb, take, get_or, replicate, Option, Some, None, Result, Ok, Err}
 use Rattle.laws.specs.Choice.{pick}
 use Rattle.records.specs.Results.{TookLine, HandledC}
 use Rattle.line_calls.specs.Calls.{took_line}
 use Rattle.packet_calls.specs.Calls.{handled_c, read_c}
-use Rattle.feed.specs.declared.Answer.{Answer}
+use Rattle.feed.specs.declared.Refused.{Refused}
 
 -- a controller on the bench, in the numbers and bytes of the calls: memory, session and tag, the reader's record, and the packet and reply buffers
 pub record Bench : Type 0 where
@@ -16,6 +16,14 @@ pub record Bench : Type 0 where
   pub reader : List ℕ
   pub packet : List ℕ
   pub reply : List ℕ
+
+-- what is said of a line: the refusal of the line, or of the packet that it completed, or 0; 1 where it completed a packet that was replied to, else 0;
+-- the reply's return code, or 0; and the place in a line that is refused for its text, or 0
+pub record Answer : Type 0 where
+  pub refusal : ℕ
+  pub replied : ℕ
+  pub rc : ℕ
+  pub place : ℕ
 
 -- "slot 0 the first half, upload slot the second", of 8,192 bytes
 abbrev pub halves : List ℕ
@@ -30,6 +38,12 @@ replying n = record { refusal = 0; replied = 1; rc = n; place = 0 }
 
 abbrev pub refusing : ℕ → ℕ → Answer
 refusing n i = record { refusal = n; replied = 0; rc = 0; place = i }
+
+-- each answer's meaning
+abbrev pub said : Result (Option ℕ) Refused → Answer
+said (Ok None) = more
+said (Ok (Some rc)) = replying rc
+said (Err r) = refusing r.refusal r.place
 
 -- what is said of a line, and what it leaves
 pub record Fed : Type 0 where

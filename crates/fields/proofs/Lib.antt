@@ -1,3 +1,4 @@
-pub mod Ways
-pub mod Fields
+pub mod Places
+pub mod Types
 pub mod Sound
+pub mod Names

@@ -1,6 +1,6 @@
 -- The known keys of each kind of map, and the type that each has.
 -- Assumes nothing.
-use Rattle.std.specs.Prelude.{ℕ, Bool, not, List, [], ◌∷◌, eqb}
+use Rattle.std.specs.Prelude.{ℕ, Bool, List, [], ◌∷◌, eqb, Option, Some, None}
 use Rattle.laws.specs.Choice.{pick}
 use Rattle.laws.specs.Bytes.{same}
 use Rattle.cbor.specs.declared.Value.{Value}
@@ -8,6 +8,7 @@ use Rattle.cbor.specs.declared.Value.TheVariants.{Unsigned, Negative, Bytes, Nul
 use Rattle.fields.specs.declared.Kind.{Kind}
 use Rattle.fields.specs.declared.Kind.TheVariants.{Echo, Bare, Upload, Erase, Reply}
 use Rattle.fields.specs.declared.Key.{Key}
+use Rattle.fields.specs.declared.ValueType.{ValueType}
 
 -- the keys' names, in ASCII: "d", "r", "data", "sha", "off", "len", "image", "upgrade", "slot", "rc"
 abbrev pub name_d : List ℕ
@@ -42,43 +43,50 @@ name_rc = 0x72 ∷ 0x63 ∷ []
 
 -- "Known keys, those listed for the command": echo "d"; reset and the state read none; upload "data", "off", "len", "image", "sha", "upgrade"; erase "slot";
 -- a reply "rc", "off", "r"
-unfoldable pub key_of : Kind → List ℕ → Key
-key_of Echo k = pick (same k name_d) Key.Text Key.Other
-key_of Bare k = Key.Other
+unfoldable pub key_of : Kind → List ℕ → Option Key
+key_of Echo k = pick (same k name_d) (Some Key.Text) None
+key_of Bare k = None
 key_of Upload k =
-    pick (same k name_data) Key.Data
-    (pick (same k name_off) Key.Off
-    (pick (same k name_len) Key.Len
-    (pick (same k name_image) Key.Image
-    (pick (same k name_sha) Key.Sha
-    (pick (same k name_upgrade) Key.Upgrade
-    Key.Other)))))
-key_of Erase k = pick (same k name_slot) Key.Slot Key.Other
-key_of Reply k = pick (same k name_rc) Key.Rc (pick (same k name_off) Key.Off (pick (same k name_r) Key.Text Key.Other))
+    pick (same k name_data) (Some Key.Data)
+    (pick (same k name_off) (Some Key.Off)
+    (pick (same k name_len) (Some Key.Len)
+    (pick (same k name_image) (Some Key.Image)
+    (pick (same k name_sha) (Some Key.Sha)
+    (pick (same k name_upgrade) (Some Key.Upgrade)
+    None)))))
+key_of Erase k = pick (same k name_slot) (Some Key.Slot) None
+key_of Reply k = pick (same k name_rc) (Some Key.Rc) (pick (same k name_off) (Some Key.Off) (pick (same k name_r) (Some Key.Text) None))
 
--- a value's type, as a number: the major type, or for false and true 20 and for null 22
-unfoldable pub type_of : Value → ℕ
-type_of (Unsigned n) = 0
-type_of (Negative n) = 1
-type_of (Bytes start len) = 2
-type_of (Value.Text start len) = 3
-type_of (Value.Flag b) = 20
-type_of Null = 22
+-- a value's type
+unfoldable pub type_of : Value → ValueType
+type_of (Unsigned n) = ValueType.Unsigned
+type_of (Negative n) = ValueType.Negative
+type_of (Bytes r) = ValueType.Bytes
+type_of (Value.Text r) = ValueType.Text
+type_of (Value.Flag b) = ValueType.Flag
+type_of Null = ValueType.Null
 
--- the type listed for a key: "data" and "sha" bytes; "off", "len", "image", "slot" and "rc" unsigned; "d" and "r" text; "upgrade" bool.
--- Another key has none
-unfoldable pub type_for_def : Key → ℕ
-type_for_def Key.Text = 3
-type_for_def Key.Data = 2
-type_for_def Key.Sha = 2
-type_for_def Key.Off = 0
-type_for_def Key.Len = 0
-type_for_def Key.Image = 0
-type_for_def Key.Upgrade = 20
-type_for_def Key.Slot = 0
-type_for_def Key.Rc = 0
-type_for_def Key.Other = 99
+-- the type listed for a key: "data" and "sha" bytes; "off", "len", "image", "slot" and "rc" unsigned; "d" and "r" text; "upgrade" bool
+unfoldable pub type_for_def : Key → ValueType
+type_for_def Key.Text = ValueType.Text
+type_for_def Key.Data = ValueType.Bytes
+type_for_def Key.Sha = ValueType.Bytes
+type_for_def Key.Off = ValueType.Unsigned
+type_for_def Key.Len = ValueType.Unsigned
+type_for_def Key.Image = ValueType.Unsigned
+type_for_def Key.Upgrade = ValueType.Flag
+type_for_def Key.Slot = ValueType.Unsigned
+type_for_def Key.Rc = ValueType.Unsigned
 
--- a key is one of the known ones: it has a type
-abbrev pub listed : Key → Bool
-listed k = not (eqb (type_for_def k) 99)
+-- a type as a number: the major type, or for false and true 20 and for null 22
+unfoldable pub type_number : ValueType → ℕ
+type_number ValueType.Unsigned = 0
+type_number ValueType.Negative = 1
+type_number ValueType.Bytes = 2
+type_number ValueType.Text = 3
+type_number ValueType.Flag = 20
+type_number ValueType.Null = 22
+
+-- a value has the type that is listed for a key
+abbrev pub typed : Key → Value → Bool
+typed k v = eqb (type_number (type_of v)) (type_number (type_for_def k))

@@ -10,7 +10,8 @@ use Rattle.laws.proofs.Choice.{pick_yes}
 use Rattle.laws.proofs.Lists.{pasted_start}
 use Rattle.session.specs.declared.Layout.{Layout}
 use Rattle.session.specs.Session.{State}
-use Rattle.requests.specs.declared.Reading.{Reading}
+use Rattle.std.specs.Prelude.{Some, Result}
+use Rattle.reason.specs.declared.Reason.{Reason}
 use Rattle.requests.specs.declared.Request.{Request}
 use Rattle.smp.specs.Packet.{header_in_def}
 use Rattle.requests.specs.Request.{command_of_def, request_of_def, read_request_def}
@@ -19,7 +20,7 @@ use Rattle.history.specs.Calls.{Answered}
 use Rattle.controller.proofs.Laws.{taking_request}
 
 -- what a call leaves that is taken as a request
-module _ (layout : Layout) (st : State) (p b : List ℕ) (r : Request) where
+module _ (layout : Layout) (st : State) (p b : List ℕ) (r : Result Request Reason) where
   said_so : (t : Taking) → t ≡ request r
       → (handled layout st p b t).says ≡ said_by (request r) (length (bytes_by layout st (handled layout st p b t).state p (length b) (request r)))
   unfolding handled
@@ -38,6 +39,6 @@ pub always_answered : Answered
 unfolding read_request_def
 always_answered layout st p b h l e =
     let r = request_of_def (command_of_def (header_in_def p)) p in
-    let read : read_request_def p ≡ Reading.Is r = rw (e, pick_yes) in
+    let read : read_request_def p ≡ Some r = rw (e, pick_yes) in
     let taken : taking layout st p b ≡ request r = taking_request layout st p b r h l read in
     record { asks = r; read = read; says = said_so layout st p b r (taking layout st p b) taken; bytes = stands layout st p b r (taking layout st p b) taken }

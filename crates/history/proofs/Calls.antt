@@ -70,7 +70,8 @@ run_cut layout first run b zero at calls h l = refl
 run_cut layout first run b (suc n) at calls h l = simp (le-ltb _ _ h, lt-ltb _ _ l, pick_yes, pick_no)
 
 pub run_on : (layout : Layout) (first : State) (run b : List ℕ) (n at : ℕ) (calls : List Call) → 2 ≤ length run - at → size_at run at ≤ length run -
-    (at + 2) → calls_from layout first run b (suc n) at calls ≡ calls_from layout first run b n (at + 2 + size_at run at) (call_at layout first run b at calls ∷ calls)
+    (at + 2) → calls_from layout first run b (suc n) at calls
+    ≡ calls_from layout first run b n (at + 2 + size_at run at) (call_at layout first run b at calls ∷ calls)
 unfolding calls_from
 run_on layout first run b n at calls h l = simp (le-ltb _ _ h, le-ltb _ _ l, pick_no)
 

@@ -1,13 +1,13 @@
 -- Any history of request calls: one memory with its two regions, record and tag handed back after each call. What is shown of the memory at every point.
 -- Assumes nothing.
-use Rattle.std.specs.Prelude.{ℕ, zero, suc, ◌+◌, ◌*◌, ◌-◌, ◌≤◌, ◌≡◌, true, false, List, [], ◌∷◌, ltb, length, take, drop, get_or}
+use Rattle.std.specs.Prelude.{ℕ, zero, suc, ◌+◌, ◌*◌, ◌-◌, ◌≤◌, ◌≡◌, true, false, List, [], ◌∷◌, ltb, length, take, drop, get_or, Some, Result}
 use Rattle.laws.specs.Choice.{pick}
 use Rattle.session.specs.declared.Layout.{Layout}
 use Rattle.session.specs.declared.Session.{Session}
 use Rattle.session.specs.Session.{layout_ok, State, state_of, possible, closed_in}
 use Rattle.slot.specs.Act.{Act}
 use Rattle.slot.specs.History.{HeldIn, CutFrom, SentWhole}
-use Rattle.requests.specs.declared.Reading.{Reading}
+use Rattle.reason.specs.declared.Reason.{Reason}
 use Rattle.requests.specs.declared.Request.{Request}
 use Rattle.requests.specs.Request.{read_request_def, is_request_def}
 use Rattle.controller.specs.Handle.{request, taking, act_by, bytes_by, said_by, handle}
@@ -88,7 +88,8 @@ calls_of layout first run b = calls_from layout first run b (length run) 0 []
 pub record Ran (layout : Layout) (m run b m' tag' : List ℕ) (s : Session) (b' : List ℕ) : Type 0 where
   pub state : state_of m' tag' s ≡ after layout (closed_in m) (calls_of layout (closed_in m) run b)
   pub buffer : b' ≡ buffer_after layout (closed_in m) b (calls_of layout (closed_in m) run b)
-  pub held : layout_ok layout (length m) ≡ true → HeldIn layout (closed_in m) (acts_of layout (closed_in m) (calls_of layout (closed_in m) run b)) (state_of m' tag' s)
+  pub held : layout_ok layout (length m) ≡ true
+      → HeldIn layout (closed_in m) (acts_of layout (closed_in m) (calls_of layout (closed_in m) run b)) (state_of m' tag' s)
   pub unbroken : (image : List ℕ) → layout_ok layout (length m) ≡ true → s.running ≡ true
       → CutFrom image (acts_of layout (closed_in m) (calls_of layout (closed_in m) run b))
       → SentWhole layout.slot1 (closed_in m) image (state_of m' tag' s)
@@ -96,8 +97,8 @@ pub record Ran (layout : Layout) (m run b m' tag' : List ℕ) (s : Session) (b' 
 -- "every request is answered": a request, with a possible layout and session and a reply buffer of 32 bytes or more, gets a reply, whose bytes
 -- are those of its reply's meaning, in the form that 01 gives it
 pub record AnsweredBy (layout : Layout) (st : State) (p b : List ℕ) : Type 0 where
-  pub asks : Request
-  pub read : read_request_def p ≡ Reading.Is asks
+  pub asks : Result Request Reason
+  pub read : read_request_def p ≡ Some asks
   pub says : (handle layout st p b).says
       ≡ said_by (request asks) (length (bytes_by layout st (handle layout st p b).state p (length b) (request asks)))
   pub bytes : take (length (bytes_by layout st (handle layout st p b).state p (length b) (request asks))) (handle layout st p b).reply

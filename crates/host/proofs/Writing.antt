@@ -2,7 +2,7 @@
 -- Assumes nothing.
 use mathlib.Core.Path.{◌≡◌, sym, ap, ap₂, ◌∙◌}
 use mathlib.Core.Bool.{true, false, false≢true}
-use mathlib.Core.List.{List, ◌++◌, append_assoc}
+use mathlib.Core.List.{List}
 use Prim.Native.Nat.{ℕ, ◌+◌, ◌-◌, ◌≤◌, ◌<◌}
 use native.Mathlib.Decide.{dec_lt}
 use native.Mathlib.Omega.{arith}
@@ -13,14 +13,13 @@ use lib.Seq.{take_at}
 use Rattle.laws.specs.Bytes.{pasted}
 use Rattle.laws.proofs.Choice.{pick_yes, pick_no, both_yes, both_true}
 use Rattle.laws.proofs.Lists.{pasted_start}
-use Rattle.cbor.specs.Inner.{Put}
-use Rattle.cbor.specs.Write.{head_of, text_of, map_of}
+use Rattle.cbor.specs.Write.{head_of}
 use Rattle.cbor.proofs.Laws.{head_length, head_long, len_most}
-use Rattle.fields.specs.Keys.{name_d}
 use Rattle.smp.specs.Packet.{header_bytes}
+use Rattle.smp.specs.Inner.{Starts}
 use Rattle.smp.proofs.Headers.{header_length}
 use Rattle.smp.proofs.Writing.{pasted_front, head_tiny}
-use Rattle.host.specs.declared.Written.TheVariants.{Packet}
+use Rattle.std.specs.Prelude.{Ok}
 use Rattle.host.specs.Write.{request_header, request_packet, echo_map, Outcome, packet, refused, outcome, unsendable, sendable, put}
 
 -- a request is eight bytes longer than its map
@@ -30,18 +29,19 @@ request_length group sequence command m = rw (length-append, header_length (requ
 
 -- a map at place 8 and then the header with its length in front of it are the request
 pub request_put : (group sequence command : ℕ) (m : List ℕ) {d e₁ e₂ : List ℕ} (end : ℕ) → 8 + length m ≤ length d
-    → Put end e₁ d 8 m
+    → end ≡ 8 + length m
+    → e₁ ≡ pasted d 8 m
     → e₂ ≡ pasted e₁ 0 (header_bytes (request_header group sequence command (end - 8)))
-    → Put end e₂ d 0 (request_packet group sequence command m)
+    → Starts d (request_packet group sequence command m) end e₂
 unfolding request_packet
-request_put group sequence command m {d} {e₁} {e₂} end room p w =
-    let e : end - 8 ≡ length m = omega (arith, p.place) in
+request_put group sequence command m {d} {e₁} {e₂} end room place written w =
+    let e : end - 8 ≡ length m = omega (arith, place) in
     let size : length (header_bytes (request_header group sequence command (length m))) ≡ 8 = header_length (request_header group sequence command (length m)) in
     record {
-      place = rw length-append (omega (arith, p.place));
-      written =
+      count = rw length-append (omega (arith, place));
+      bytes =
           w
-          ∙ ap₂ (λ (l : List ℕ) (n : ℕ). pasted l 0 (header_bytes (request_header group sequence command n))) p.written e
+          ∙ ap₂ (λ (l : List ℕ) (n : ℕ). pasted l 0 (header_bytes (request_header group sequence command n))) written e
           ∙ pasted_front d 8 (header_bytes (request_header group sequence command (length m))) m size room;
     }
 
@@ -67,18 +67,19 @@ pub put_whole : (p out : List ℕ) → length p ≤ 65533 → length p ≤ lengt
 unfolding put
 put_whole p out h k = simp (le-ltb 65533 _ h, le-ltb (length out) _ k, pick_no)
 
--- a request that may be sent is written
-pub request_sent : (group sequence command : ℕ) (m : List ℕ) {d e₁ e₂ : List ℕ} (total end : ℕ) → total ≡ 8 + length m
+-- a request that may be sent is written, and stands in the buffer that comes back
+pub request_sent : (group sequence command : ℕ) (m d : List ℕ) {e₁ e₂ f : List ℕ} (total end : ℕ) → total ≡ 8 + length m
     → sendable total (length d) ≡ true
-    → Put end e₁ d 8 m
+    → end ≡ 8 + length m
+    → e₁ ≡ pasted d 8 m
     → e₂ ≡ pasted e₁ 0 (header_bytes (request_header group sequence command (end - 8)))
-    → outcome (Packet end) e₂ ≡ put (request_packet group sequence command m) d
-request_sent group sequence command m {d} {e₁} {e₂} total end size may p w =
+    → f ≡ e₂
+    → outcome (Ok end) f ≡ put (request_packet group sequence command m) d
+request_sent group sequence command m d {e₁} {e₂} {f} total end size may place written w back =
     let n = request_length group sequence command m in
     let t = sendable_fits total (length d) may in
-    let whole : Put end e₂ d 0 (request_packet group sequence command m) = request_put group sequence command m end (omega (arith, t)) p w in
-    let c : end ≡ length (request_packet group sequence command m) = omega (arith, whole.place) in
-    ap₂ (λ (k : ℕ) (l : List ℕ). outcome (Packet k) l) c whole.written
+    let whole : Starts d (request_packet group sequence command m) end e₂ = request_put group sequence command m end (omega (arith, t)) place written w in
+    ap₂ (λ (k : ℕ) (l : List ℕ). outcome (Ok k) l) whole.count (back ∙ whole.bytes)
     ∙ sym (put_whole (request_packet group sequence command m) d (omega (arith, t)) (omega (arith, t)))
 
 -- a request that may not be sent is refused
@@ -124,11 +125,6 @@ sent_whole p out n e =
 -- no head is longer than nine bytes
 pub head_most : (m n : ℕ) → length (head_of m n) ≤ 9
 head_most m n = rw head_long (len_most n)
-
--- an echo's map in the parts that its writer writes
-pub echo_parts : (text : List ℕ) → echo_map text ≡ (map_of 1 ++ text_of name_d) ++ text_of text
-unfolding echo_map
-echo_parts text = sym (append_assoc (map_of 1) (text_of name_d) (text_of text))
 
 -- how long an echo's map is
 pub echo_length : (text : List ℕ) → length (echo_map text) ≡ 3 + length (head_of 0 (length text)) + length text

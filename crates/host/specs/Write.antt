@@ -1,7 +1,7 @@
 -- The writers of echo, reset and erase requests: "op 2 and flags 0, gives reset and erase the payload A0"; and what every request writer says and
 -- leaves.
 -- Assumes nothing.
-use Rattle.std.specs.Prelude.{ℕ, Bool, List, ◌++◌, ltb, leb, length}
+use Rattle.std.specs.Prelude.{ℕ, Bool, List, ◌++◌, ltb, leb, length, Result, Ok, Err}
 use Rattle.laws.specs.Choice.{pick, both}
 use Rattle.laws.specs.Bytes.{pasted}
 use Rattle.refusal.specs.Number.{number_of}
@@ -9,8 +9,7 @@ use Rattle.cbor.specs.Write.{text_of, map_of}
 use Rattle.fields.specs.Keys.{name_d}
 use Rattle.smp.specs.declared.Header.{Header}
 use Rattle.smp.specs.Packet.{header_bytes}
-use Rattle.host.specs.declared.Written.{Written}
-use Rattle.host.specs.declared.Written.TheVariants.{Packet, Refused}
+use Rattle.refusal.specs.declared.Refusal.{Refusal}
 
 -- the header of a request with a map of n bytes
 abbrev pub request_header : ℕ → ℕ → ℕ → ℕ → Header
@@ -30,9 +29,9 @@ pub data Told : Type 0 where
   refused : ℕ → Told
 
 -- each answer's meaning
-abbrev pub told : Written → Told
-told (Packet n) = packet n
-told (Refused r) = refused (number_of r)
+abbrev pub told : Result ℕ Refusal → Told
+told (Ok n) = packet n
+told (Err r) = refused (number_of r)
 
 -- all that a call leaves: what it said, and the lent buffer
 pub record Outcome : Type 0 where
@@ -40,7 +39,7 @@ pub record Outcome : Type 0 where
   pub buffer : List ℕ
 
 -- the outcome of a call that gave w and left out in its buffer
-abbrev pub outcome : Written → List ℕ → Outcome
+abbrev pub outcome : Result ℕ Refusal → List ℕ → Outcome
 outcome w out = record { says = told w; buffer = out }
 
 -- refusal 12: nothing is written

@@ -1,4 +1,5 @@
-// The host's calls on numbers: requests are written, and how long they are is told in 32 bits.
+// The host's calls on numbers, as C has them, one function for each of C's calls, with its parameters: requests are written, and how long they are
+// is told in 32 bits.
 #![tactic(auto)]
 
 ghost use Rattle.std.specs.Prelude.{◌≡◌};
@@ -13,8 +14,7 @@ pub fn write_echo(sequence: u8, text: &[u8], out: &mut [u8], size: &mut u32) -> 
     ensures { record { result = result; out = out.new; size = size.new } ≡ wrote_c size.old
         (write_echo_def sequence text.now out.old) }
 {
-    let w = host::write_echo(sequence, text, out);
-    records::told_c(w, size)
+    records::told_c(host::write_echo(sequence, text, out), size)
 }
 
 // Writes a reset request to the start of out.
@@ -22,8 +22,7 @@ pub fn write_reset(sequence: u8, out: &mut [u8], size: &mut u32) -> u32
     ensures { record { result = result; out = out.new; size = size.new } ≡ wrote_c size.old
         (write_reset_def sequence out.old) }
 {
-    let w = host::write_reset(sequence, out);
-    records::told_c(w, size)
+    records::told_c(host::write_reset(sequence, out), size)
 }
 
 // Writes an erase request to the start of out.
@@ -31,8 +30,7 @@ pub fn write_erase(sequence: u8, out: &mut [u8], size: &mut u32) -> u32
     ensures { record { result = result; out = out.new; size = size.new } ≡ wrote_c size.old
         (write_erase_def sequence out.old) }
 {
-    let w = host::write_erase(sequence, out);
-    records::told_c(w, size)
+    records::told_c(host::write_erase(sequence, out), size)
 }
 
 // Writes an upload request to the start of out.
@@ -48,8 +46,10 @@ pub fn write_upload(
     ensures { record { result = result; out = out.new; size = size.new } ≡ wrote_c size.old
         (write_upload_def sequence «data».now off length tag.now out.old) }
 {
-    let w = uploads::write_upload(sequence, data, off, length, tag, out);
-    records::told_c(w, size)
+    records::told_c(
+        uploads::write_upload(sequence, data, off, length, tag, out),
+        size,
+    )
 }
 
 // The most data that an upload request can carry, for an output of this many bytes: 0 where it can carry none.

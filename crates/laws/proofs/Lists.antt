@@ -1,13 +1,13 @@
 -- Laws of lists of bytes: a list written into another at a place, and that the parts of bytes are bytes.
 -- Assumes nothing.
 use mathlib.Core.Path.{◌≡◌, refl, sym, ap, ap₂, ◌∙◌}
-use Prim.Native.Nat.{ℕ, zero, suc, ◌+◌, ◌-◌, ◌≤◌, ◌<◌}
+use Prim.Native.Nat.{ℕ, zero, suc, ◌+◌, ◌-◌, ◌*◌, ◌≤◌, ◌<◌}
 use native.Mathlib.Nat.{zero-add, add-zero}
 use native.Mathlib.Omega.{arith}
 use mathlib.Core.List.{List, [], ◌∷◌, ◌++◌, append_assoc, append-nil}
 use native.Mathlib.Numerals.{add-one, add-two, add-three}
-use lib.ListN.{length, take, drop, set, length-set, length-append, length-take, length-drop, take-append-drop, drop_of_length-le}
-use lib.Seq.{take-length, take-append-add, drop-append-add, drop-drop, take_all, take_at, set_split, sets-eq}
+use lib.ListN.{length, get_or, take, drop, set, length-set, length-append, length-take, length-drop, take-append-drop, drop_of_length-le}
+use lib.Seq.{get_or-drop, take-length, take-append-add, drop-append-add, drop-drop, take_all, take_at, set_split, sets-eq}
 use mathlib.Core.Bool.{Bool, true, false, false≢true}
 use lib.Dec.{eqb, lit<}
 use borrow.Author.Tests.{eqb-true, eq-eqb}
@@ -160,6 +160,11 @@ pub bytes_drop : (n : ℕ) (s : List ℕ) → Bytes s → Bytes (drop n s)
 bytes_drop zero s p = p
 bytes_drop (suc n) [] p = p
 bytes_drop (suc n) (a ∷ s) p = bytes_drop n s (bytes_tail a s p)
+
+-- the two bytes at a place, as a number
+pub two_bytes : (s : List ℕ) (at : ℕ) → get_or s at 0 * 256 + get_or s (at + 1) 0 ≡ of_be16 (drop at s)
+unfolding of_be16
+two_bytes s at = rw (get_or-drop at s 0 0, get_or-drop at s 1 0, add-zero at)
 
 -- a number of two bytes: its bytes are bytes, it is read back, and what is read is below 65,536
 pub be16_bytes : (n : ℕ) → Bytes (be16 n)

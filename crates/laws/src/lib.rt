@@ -1,22 +1,26 @@
-// What several layers need and none owns: choices, lists of bytes and their laws (specs/, proofs/), what a map may leave out, and the
-// functions on slices that everyone calls.
+// What several layers need and none owns: choices, lists of bytes and their laws (specs/, proofs/), runs of bytes by their place and length,
+// and the functions on slices that everyone calls.
 #![tactic(auto)]
 
-ghost use Rattle.std.specs.Prelude.{◌≡◌, ◌+◌, ◌≤◌, ◌<◌, length, get_or, replicate};
-ghost use Rattle.laws.specs.Bytes.{pasted, same, be16};
+ghost use Rattle.std.specs.Prelude.{◌≡◌, ◌+◌, ◌≤◌, ◌<◌, ◌*◌, ◌^◌, length, get_or, drop};
+ghost use Rattle.laws.specs.Bytes.{pasted, same, be16, of_be16};
+ghost use Rattle.laws.specs.Parts.{part_of};
 
-// A number that may be left out.
-#[derive(Clone, Copy)]
-pub enum Number {
-    Absent,
-    Is(u64),
+// A run of bytes: where it starts among those that it was read from, and its length.
+#[derive(Clone, Copy, Debug, PartialEq, Eq)]
+pub struct Run {
+    pub start: usize,
+    pub len: usize,
 }
 
-// A run of bytes that may be left out: where it starts among those that it was read from, and its length.
-#[derive(Clone, Copy)]
-pub enum Run {
-    Absent,
-    At { start: usize, len: usize },
+impl Run {
+    // The run's bytes, lent on out of those that it lies in.
+    pub fn of<'a>(self, s: &'a [u8]) -> &'a [u8]
+        requires { self.start + self.len ≤ length s.now }
+        ensures { result.now ≡ part_of s.now self.start self.len }
+    {
+        &s[self.start..self.start + self.len]
+    }
 }
 
 // Writes src into buf from place at on; the other bytes of buf stay.
@@ -36,32 +40,22 @@ pub fn put_be16(buf: &mut [u8], at: usize, n: usize)
     buf[at + 1] = (n % 256) as u8;
 }
 
-// Sets every byte of buf to v.
-pub fn fill(buf: &mut [u8], v: u8)
-    ensures { buf.new ≡ replicate (length buf.old) v }
-{
-    let mut i = 0;
-    while i < buf.len() {
-        buf[i] = v;
-        i += 1;
-    }
-}
-
 // The byte of s at place i, or 0 past its end.
 pub fn byte_at(s: &[u8], i: usize) -> u8
     ensures { result ≡ get_or s.now i 0 }
 {
-    if i < s.len() { s[i] } else { 0 }
+    s.get(i).copied().unwrap_or(0)
 }
 
-// A byte as a number with room above it.
-pub fn wide(b: u8) -> usize
-    ensures { (result ≡ b) × (result < 256) }
+// The number in two bytes of s from place at on, the high one first; a byte past the end counts as 0.
+pub fn be16_at(s: &[u8], at: usize) -> usize
+    requires { at + 1 < 2 ^ 64 }
+    ensures { (result ≡ of_be16 (drop at s.now)) × (result < 65536) }
 {
-    b as usize
+    usize::from(byte_at(s, at)) * 256 + usize::from(byte_at(s, at + 1))
 }
 
-// Whether a and b hold the same bytes.
+// Whether a and b hold the same bytes: the language's `==`, in the definitions' own word for it.
 pub fn equal(a: &[u8], b: &[u8]) -> bool
     ensures { result ≡ same a.now b.now }
 {

@@ -1,12 +1,12 @@
 // The calls of the line on arrays of numbers: a line is taken, bytes are collected into lines, a frame is sent.
+// C calls them: so a refusal is given as its number, and what else is given goes to lent arrays.
 #![tactic(auto)]
 
 ghost use Rattle.std.specs.Prelude.{◌≡◌};
 ghost use Rattle.line_calls.specs.Calls.{collected_c, took_line, sent_frame};
 
-use sender::Sent;
-
 // Takes one line.
+#[tactic(auto, unfolding(crate::specs::Calls::took_line))]
 pub fn take_line(
     record: &mut [u32; 4],
     line: &[u8],
@@ -22,12 +22,13 @@ pub fn take_line(
       place = place.new;
     } ≡ took_line «record».old line.now packet.old body.old place.old }
 {
-    let before = records::reader_from(record[0], record[1], record[2], record[3]);
+    let before = records::reader_from(record);
     let taken = reader::take_line(before, line, packet);
     records::told_line(taken, record, body, place)
 }
 
 // Goes on in a lump, to the end of the next line or to the lump's end.
+#[tactic(auto, unfolding(crate::specs::Calls::collected_c, crate::specs::Calls::collected_by, laws::specs::Choice::pick))]
 pub fn collect(
     record: &mut [u32; 2],
     held: &mut [u8; collector::MOST],
@@ -44,31 +45,28 @@ pub fn collect(
       got = got.new;
     } ≡ collected_c «record».old held.old lump.now at line.old got.old }
 {
-    let before = records::collector_from(record[0], record[1], *held);
+    let before = records::collector_from(record, *held);
     let step = before.collect(lump, at, line);
     let gave = step.got;
-    let result = records::step_result(gave);
-    if records::went_on(result) {
+    if records::went_on(gave) {
         let length = records::step_length(gave);
         records::store_collector(record, held, step.collector);
         *got = [length, step.place as u32];
-        return result;
     }
-    result
+    records::step_result(gave)
 }
 
 // Writes frame number k of a body, as a line, to the start of out.
+#[tactic(auto, unfolding(crate::specs::Calls::sent_frame, crate::specs::Calls::sent_by))]
 pub fn send_frame(body: &[u8], k: usize, out: &mut [u8], sent: &mut [u32; 2]) -> u32
     ensures { record { result = result; out = out.new; sent = sent.new } ≡ sent_frame body.now k out.old
         sent.old }
 {
     match sender::send_frame(body, k, out) {
-        Sent::Frame { length, count } => {
-            *sent = [length as u32, count as u32];
-            return 0;
+        Ok(frame) => {
+            *sent = [frame.length as u32, frame.count as u32];
+            0
         }
-        Sent::Refused(refusal) => {
-            return refusal::number(refusal);
-        }
+        Err(why) => u32::from(why),
     }
 }

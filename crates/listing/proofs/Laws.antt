@@ -1,25 +1,28 @@
 -- The list's parts, in the order in which they are written, and how long each is.
 -- Assumes nothing.
 use Prim.{Unit}
-use mathlib.Core.Path.{◌≡◌, refl, sym, ap}
-use mathlib.Core.Option.{Option, none, some}
-use mathlib.Core.List.{List, ◌++◌, append_assoc}
-use Prim.Native.Nat.{ℕ, ◌+◌, ◌-◌, ◌≤◌, ◌<◌}
+use mathlib.Core.Path.{◌≡◌, refl, sym}
+use Rattle.std.specs.Prelude.{Option, Some, None}
+use mathlib.Core.List.{List, [], ◌++◌}
+use Prim.Native.Nat.{ℕ, ◌+◌, ◌≤◌, ◌<◌}
 use native.Mathlib.Omega.{arith}
 use lib.Dec.{lit<}
-use lib.ListN.{length, take, drop, length-append, length-take, length-drop}
+use lib.ListN.{length, drop, length-append, length-take, length-drop}
 use Rattle.laws.specs.Bytes.{Bytes}
 use Rattle.laws.specs.Parts.{part_of}
-use Rattle.laws.proofs.Lists.{bytes_take, bytes_drop}
+use Rattle.writer.specs.declared.Writer.{Writer}
+use Rattle.writer.specs.Writer.{Wrote}
+use Rattle.laws.proofs.Lists.{pasted_none, bytes_take, bytes_drop}
 use Rattle.decimal.specs.Decimal.{digit_count_def}
 use Rattle.decimal.proofs.Laws.{digits_length, count_most, byte_digits}
-use Rattle.cbor.specs.Write.{head_of, unsigned, bytes_of, text_of, map_of}
+use Rattle.cbor.specs.Write.{unsigned, bytes_of, text_of, map_of}
 use Rattle.cbor.proofs.Laws.{head_size, form_one}
 use Rattle.fields.specs.Keys.{name_slot}
 use Rattle.session.specs.declared.Slot.{Slot}
 use Rattle.session.specs.declared.Layout.{Layout}
 use Rattle.slot.specs.History.{slot_in}
 use Rattle.smp.proofs.Writing.{head_tiny}
+use Rattle.images.specs.declared.Version.{Version}
 use Rattle.images.specs.declared.Image.{Image}
 use Rattle.images.specs.declared.Area.{Area}
 use Rattle.images.specs.Image.{area_in_def, entries, hash_of, image_with, image_of, image_in_def}
@@ -37,60 +40,19 @@ use Rattle.listing.specs.Listing.{
   list_map,
   ListFits,
 }
-use Rattle.listing.specs.Inner.{named_part, image_length, list_front}
+use Rattle.listing.specs.Inner.{image_length}
+
+-- nothing was written
+pub wrote_none : (w : Writer) → Wrote w w []
+wrote_none w = record { same_buffer = refl; place = omega arith; written = sym (pasted_none w.buf.now w.at) }
 
 -- how long a version is
-pub version_length : (major minor revision : ℕ) → length (version_text major minor revision)
-    ≡ digit_count_def 4 major + digit_count_def 4 minor + digit_count_def 4 revision + 2
-version_length major minor revision = simp (length-append, digits_length) (omega arith)
+pub version_length : (v : Version) → length (version_text v) ≡ digit_count_def 4 v.major + digit_count_def 4 v.minor + digit_count_def 4 v.revision + 2
+version_length v = simp (length-append, digits_length) (omega arith)
 
 -- at most 17 bytes
-version_most : (major minor revision : ℕ) → length (version_text major minor revision) ≤ 17
-version_most major minor revision =
-    omega (arith, version_length major minor revision, count_most 4 major, count_most 4 minor, count_most 4 revision)
-
--- two lists after another are grouped to the left
-pub three_parts : (x y z : List ℕ) → x ++ (y ++ z) ≡ (x ++ y) ++ z
-three_parts x y z = sym (append_assoc x y z)
-
--- three lists after another are grouped to the left
-pub four_parts : (x y z t : List ℕ) → x ++ (y ++ (z ++ t)) ≡ ((x ++ y) ++ z) ++ t
-four_parts x y z t = simp append_assoc
-
--- five lists of which the second and the third are one part
-five_parts : (x y z t u : List ℕ) → x ++ (y ++ (z ++ (t ++ u))) ≡ ((x ++ (y ++ z)) ++ t) ++ u
-five_parts x y z t u = simp append_assoc
-
--- an image's map in the parts that its writer writes
-pub image_parts : (number : ℕ) (s : List ℕ) (major minor revision hash : ℕ) → image_map number s (Image.At major minor revision hash)
-    ≡ (named_part number major minor revision ++ text_of name_hash) ++ bytes_of (part_of s hash 32)
-unfolding image_map
-image_parts number s major minor revision hash =
-    five_parts (map_of 3) (text_of name_slot ++ unsigned number) (text_of name_version ++ text_of (version_text major minor revision)) (text_of name_hash)
-    (bytes_of (part_of s hash 32))
-
--- the list's map in the parts that its writer writes, where it has the images and their count
-pub list_parts : (m : List ℕ) (layout : Layout) (n : ℕ) (first second : Image) → first ≡ image_at_def m layout.slot0
-    → second ≡ image_at_def m layout.slot1
-    → n ≡ image_count first + image_count second
-    → list_map m layout ≡ (list_front n ++ image_map 0 (slot_in layout.slot0 m) first) ++ image_map 1 (slot_in layout.slot1 m) second
-unfolding list_map
-list_parts m layout n first second e f g =
-    rw (g, e, f) (five_parts (map_of 1) (text_of name_images) (array_of (image_count (image_at_def m layout.slot0) + image_count (image_at_def m layout.slot1)))
-    (image_map 0 (slot_in layout.slot0 m) (image_at_def m layout.slot0)) (image_map 1 (slot_in layout.slot1 m) (image_at_def m layout.slot1)))
-
--- a hash's byte string in the parts that its writer writes
-pub hash_parts : (s : List ℕ) (hash : ℕ) → hash + 32 ≤ length s → bytes_of (part_of s hash 32) ≡ head_of 2 32 ++ take (hash + 32 - hash) (drop hash s)
-hash_parts s hash h =
-    let all : hash + 32 - hash ≡ 32 = omega arith in
-    let size : length (take 32 (drop hash s)) ≡ 32 = simp (length-take, length-drop) (omega arith) in
-    rw all (ap (λ (k : ℕ). head_of 2 k ++ take 32 (drop hash s)) size)
-
--- the part from a slot's start to its end is the slot
-pub part_slot : (slot : Slot) (m : List ℕ) → take (slot.start + slot.size - slot.start) (drop slot.start m) ≡ slot_in slot m
-part_slot slot m =
-    let e : slot.start + slot.size - slot.start ≡ slot.size = omega arith in
-    rw e
+version_most : (v : Version) → length (version_text v) ≤ 17
+version_most v = omega (arith, version_length v, count_most 4 v.major, count_most 4 v.minor, count_most 4 v.revision)
 
 -- a text below 24 bytes takes one byte more
 text_length_lem : (x : List ℕ) → length x < 24 → length (text_of x) ≡ 1 + length x
@@ -103,21 +65,22 @@ hash_length s hash h =
     rw (length-append, e) (omega (arith, head_size 2 32, (form_one 32 (lit< tt) (lit< tt)).1))
 
 -- how long the map of an image is, in a slot whose number is below 24
-image_length_lem : (number : ℕ) (s : List ℕ) (image : Image) → number < 24 → ImageWithin s image → length (image_map number s image) ≡ image_length image
+image_length_lem : (number : ℕ) (s : List ℕ) (image : Option Image) → number < 24 → ImageWithin s image
+    → length (image_map number s image) ≡ image_length image
 unfolding image_map image_length
-image_length_lem number s Image.Absent h k = refl
-image_length_lem number s (Image.At major minor revision hash) h k =
-    let v : List ℕ = version_text major minor revision in
+image_length_lem number s None h k = refl
+image_length_lem number s (Some i) h k =
+    let v : List ℕ = version_text i.version in
     omega (
       arith,
-      sums (map_of 3) (text_of name_slot) (unsigned number) (text_of name_version) (text_of v) (text_of name_hash) (bytes_of (part_of s hash 32)),
+      sums (map_of 3) (text_of name_slot) (unsigned number) (text_of name_version) (text_of v) (text_of name_hash) (bytes_of (part_of s i.hash 32)),
       head_tiny 5 3 (lit< tt),
       text_length_lem name_slot (lit< tt),
       head_tiny 0 number h,
       text_length_lem name_version (lit< tt),
-      text_length_lem v (omega (arith, version_most major minor revision)),
+      text_length_lem v (omega (arith, version_most i.version)),
       text_length_lem name_hash (lit< tt),
-      hash_length s hash k,
+      hash_length s i.hash k,
     )
   where
     sums : (a b c d e f g : List ℕ) → length (a ++ ((b ++ c) ++ ((d ++ e) ++ (f ++ g))))
@@ -125,18 +88,18 @@ image_length_lem number s (Image.At major minor revision hash) h k =
     sums a b c d e f g = simp length-append (omega arith)
 
 -- a slot has at most one image
-one_image : (image : Image) → image_count image ≤ 1
+one_image : (image : Option Image) → image_count image ≤ 1
 unfolding image_count
-one_image Image.Absent = omega arith
-one_image (Image.At major minor revision hash) = lit< tt
+one_image None = omega arith
+one_image (Some i) = lit< tt
 
 -- how long the list's map is
 pub list_long : (m : List ℕ) (layout : Layout) → length (list_map m layout)
     ≡ 9 + image_length (image_at_def m layout.slot0) + image_length (image_at_def m layout.slot1)
 unfolding list_map
 list_long m layout =
-    let first : Image = image_at_def m layout.slot0 in
-    let second : Image = image_at_def m layout.slot1 in
+    let first : Option Image = image_at_def m layout.slot0 in
+    let second : Option Image = image_at_def m layout.slot1 in
     let n : ℕ = image_count first + image_count second in
     omega (
       arith,
@@ -152,28 +115,29 @@ list_long m layout =
     sums a b c d e = simp length-append (omega arith)
 
 -- an image's major and minor number are bytes where its region's are
-abbrev Numbered : Image → Type 0
-Numbered Image.Absent = Unit {0}
-Numbered (Image.At major minor revision hash) = (major < 256) × (minor < 256)
+abbrev Numbered : Option Image → Type 0
+Numbered None = Unit {0}
+Numbered (Some i) = (i.version.major < 256) × (i.version.minor < 256)
 
 image_numbered : (s : List ℕ) → Bytes s → Numbered (image_in_def s)
 unfolding image_of image_with
 image_numbered s bytes = by-area (area_in_def s)
   where
     by-hash : (x : Option ℕ) → Numbered (image_with s x)
-    by-hash none = tt
-    by-hash (some hash) = (bytes 20, bytes 21)
+    by-hash None = tt
+    by-hash (Some hash) = (bytes 20, bytes 21)
 
-    by-area : (a : Area) → Numbered (image_of s a)
-    by-area Area.Absent = tt
-    by-area (Area.At start stop) = by-hash (hash_of (entries s start stop))
+    by-area : (a : Option Area) → Numbered (image_of s a)
+    by-area None = tt
+    by-area (Some a) = by-hash (hash_of (entries s a.start a.stop))
 
 -- so its map has at most 68 bytes
-image_most : (image : Image) → Numbered image → image_length image ≤ 68
+image_most : (image : Option Image) → Numbered image → image_length image ≤ 68
 unfolding image_length
-image_most Image.Absent h = omega arith
-image_most (Image.At major minor revision hash) h =
-    omega (arith, version_length major minor revision, byte_digits 4 major h.0, byte_digits 4 minor h.1, count_most 4 revision)
+image_most None h = omega arith
+image_most (Some i) h =
+    let v = i.version in
+    omega (arith, version_length v, byte_digits 4 v.major h.0, byte_digits 4 v.minor h.1, count_most 4 v.revision)
 
 -- and the reply with a list at most 153
 pub list_fits : ListFits
@@ -191,6 +155,6 @@ pub list_length : (m : List ℕ) (layout : Layout) → length (list_map m layout
 unfolding image_length
 list_length m layout = omega (arith, list_long m layout, short (image_at_def m layout.slot0), short (image_at_def m layout.slot1))
   where
-    short : (image : Image) → image_length image ≤ 72
-    short Image.Absent = omega arith
-    short (Image.At major minor revision hash) = omega (arith, version_most major minor revision)
+    short : (image : Option Image) → image_length image ≤ 72
+    short None = omega arith
+    short (Some i) = omega (arith, version_most i.version)

@@ -1,7 +1,7 @@
 -- The list of images: "The reply is {"images": [...]} without "rc". Each valid image gives slot, version as major.minor.revision, and hash, in
 -- that order; others are skipped."
 -- Assumes nothing.
-use Rattle.std.specs.Prelude.{ℕ, ◌+◌, ◌≤◌, List, [], ◌∷◌, ◌++◌, length}
+use Rattle.std.specs.Prelude.{ℕ, ◌+◌, ◌≤◌, List, [], ◌∷◌, ◌++◌, length, Option, Some, None}
 use Rattle.laws.specs.Bytes.{Bytes}
 use Rattle.laws.specs.Parts.{part_of}
 use Rattle.decimal.specs.Decimal.{decimal}
@@ -10,6 +10,7 @@ use Rattle.fields.specs.Keys.{name_slot}
 use Rattle.session.specs.declared.Slot.{Slot}
 use Rattle.session.specs.declared.Layout.{Layout}
 use Rattle.slot.specs.History.{slot_in}
+use Rattle.images.specs.declared.Version.{Version}
 use Rattle.images.specs.declared.Image.{Image}
 use Rattle.images.specs.Image.{image_in_def}
 
@@ -28,29 +29,29 @@ abbrev pub five : ℕ → List ℕ
 five n = decimal 4 n
 
 -- a version as text: "major.minor.revision"
-abbrev pub version_text : ℕ → ℕ → ℕ → List ℕ
-version_text major minor revision = (five major ++ (0x2E ∷ [])) ++ ((five minor ++ (0x2E ∷ [])) ++ five revision)
+abbrev pub version_text : Version → List ℕ
+version_text v = (five v.major ++ (0x2E ∷ [])) ++ ((five v.minor ++ (0x2E ∷ [])) ++ five v.revision)
 
 -- an array's head
 abbrev pub array_of : ℕ → List ℕ
 array_of n = head_of 4 n
 
 -- the map of the image of a slot with this number, where s are the slot's bytes; nothing where it has none
-unfoldable pub image_map : ℕ → List ℕ → Image → List ℕ
-image_map number s Image.Absent = []
-image_map number s (Image.At major minor revision hash) =
+unfoldable pub image_map : ℕ → List ℕ → Option Image → List ℕ
+image_map number s None = []
+image_map number s (Some i) =
     map_of 3
     ++ ((text_of name_slot ++ unsigned number)
-    ++ ((text_of name_version ++ text_of (version_text major minor revision))
-    ++ (text_of name_hash ++ bytes_of (part_of s hash 32))))
+    ++ ((text_of name_version ++ text_of (version_text i.version))
+    ++ (text_of name_hash ++ bytes_of (part_of s i.hash 32))))
 
 -- how many images there are in a slot
-unfoldable pub image_count : Image → ℕ
-image_count Image.Absent = 0
-image_count (Image.At major minor revision hash) = 1
+unfoldable pub image_count : Option Image → ℕ
+image_count None = 0
+image_count (Some i) = 1
 
 -- the image of a slot in a memory
-abbrev pub image_at_def : List ℕ → Slot → Image
+abbrev pub image_at_def : List ℕ → Slot → Option Image
 image_at_def m slot = image_in_def (slot_in slot m)
 
 -- the list's map, slot 0 before slot 1

@@ -2,191 +2,140 @@
 #![tactic(auto)]
 
 ghost use Rattle.std.specs.Prelude.{◌≡◌, true, ◌+◌, ◌≤◌, ◌<◌, length};
-ghost use Rattle.laws.specs.Parts.{part_of};
-ghost use Rattle.cbor.specs.Inner.{Put};
-ghost use Rattle.cbor.specs.Write.{bytes_of, text_of};
+ghost use Rattle.std.specs.Option.{ForSome};
+ghost use Rattle.writer.specs.Writer.{HasRoom, Wrote};
 ghost use Rattle.session.specs.Session.{layout_ok};
 ghost use Rattle.slot.specs.History.{slot_in};
-ghost use Rattle.smp.specs.Reply.{reply_packet};
 ghost use Rattle.smp.specs.Inner.{Written};
-ghost use Rattle.images.specs.Inner.{ImageWithin};
 ghost use Rattle.listing.specs.Listing.{version_text, image_map, image_count, image_at_def, list_map};
-ghost use Rattle.listing.specs.Inner.{named_part, image_length, list_front};
+ghost use Rattle.listing.specs.Inner.{version_part, hash_part, image_length, map_listed};
 
-use images::Image;
+use images::{Image, Version};
+use laws::Run;
 use session::{Layout, Slot};
 use smp::Header;
+use writer::Writer;
 
 // The most digits of a number below 100,000 after its first.
 const MORE: usize = 4;
 
 // How long a version is as text.
-fn version_len(major: u8, minor: u8, revision: usize) -> usize
-    ensures { (result ≡ length (version_text major minor revision)) × (result ≤ 17) }
+#[tactic(auto, using(crate::proofs::Laws::version_length))]
+fn version_len(version: Version) -> usize
+    ensures { (result ≡ length (version_text version)) × (result ≤ 17) }
 {
-    let first = decimal::digit_count(MORE, laws::wide(major));
-    let second = decimal::digit_count(MORE, laws::wide(minor));
-    let third = decimal::digit_count(MORE, revision);
+    let first = decimal::digit_count(MORE, usize::from(version.major));
+    let second = decimal::digit_count(MORE, usize::from(version.minor));
+    let third = decimal::digit_count(MORE, version.revision);
     first + second + third + 2
 }
 
-// Writes a version into buf from place at on, and gives the place after it.
-fn put_version(buf: &mut [u8], at: usize, major: u8, minor: u8, revision: usize) -> usize
-    requires { at + length (version_text major minor revision) ≤ length buf.old }
-    ensures { Put result buf.new buf.old at (version_text major minor revision) }
+// Writes a version: three numbers with a point between them.
+fn put_version_text(out: &mut Writer, version: Version)
+    requires { HasRoom out.old (version_text version) }
+    ensures { Wrote out.old out.new (version_text version) }
 {
-    let second = decimal::put_ended(buf, at, MORE, major as usize, 0x2E);
-    let third = decimal::put_ended(buf, second, MORE, minor as usize, 0x2E);
-    decimal::put_decimal(buf, third, MORE, revision)
+    decimal::put_ended(out, MORE, usize::from(version.major), b'.');
+    decimal::put_ended(out, MORE, usize::from(version.minor), b'.');
+    decimal::put_decimal(out, MORE, version.revision);
 }
 
-// Writes a version as a text string into buf from place at on, and gives the place after it.
-fn put_version_text(buf: &mut [u8], at: usize, major: u8, minor: u8, revision: usize) -> usize
-    requires { at + length (text_of (version_text major minor revision)) ≤ length buf.old }
-    ensures { Put result buf.new buf.old at (text_of (version_text major minor revision)) }
+// Writes the key of a version and the version as a text string.
+fn put_version(out: &mut Writer, version: Version)
+    requires { HasRoom out.old (version_part version) }
+    ensures { Wrote out.old out.new (version_part version) }
 {
-    let len = version_len(major, minor, revision);
-    let next = cbor::put_head(buf, at, 3, len as u64);
-    put_version(buf, next, major, minor, revision)
+    smp::put_text(out, b"version");
+    // A cast from usize to u64, both of 64 bits: TryFrom would be no plainer, since it adds a case that never comes.
+    cbor::put_head(out, 3, version_len(version) as u64);
+    put_version_text(out, version);
 }
 
-// Writes the 32 bytes of s from place hash on as a byte string into buf from place at on, and gives the place after it.
-fn put_hash(buf: &mut [u8], at: usize, s: &[u8], hash: usize) -> usize
+// Writes the key of a hash and its 32 bytes, those of s from place hash on, as a byte string.
+fn put_hash(out: &mut Writer, s: &[u8], hash: usize)
     requires hash_in_bounds { hash + 32 ≤ length s.now }
-    requires hash_in_bounds_2 { at + length (bytes_of (part_of s.now hash 32)) ≤ length buf.old }
-    ensures { Put result buf.new buf.old at (bytes_of (part_of s.now hash 32)) }
+    requires has_room { HasRoom out.old (hash_part s.now hash) }
+    ensures { Wrote out.old out.new (hash_part s.now hash) }
 {
-    let next = cbor::put_head(buf, at, 2, 32);
-    let end = hash + 32;
-    laws::put(buf, next, &s[hash..end]);
-    next + 32
-}
-
-// Writes an image's slot and version, with the map's head before them, into buf from place at on, and gives the place after them.
-fn put_named(buf: &mut [u8], at: usize, number: u64, major: u8, minor: u8, revision: usize) -> usize
-    requires { at + length (named_part number major minor revision) ≤ length buf.old }
-    ensures { Put result buf.new buf.old at (named_part number major minor revision) }
-{
-    let first = cbor::put_head(buf, at, 5, 3);
-    let second = smp::put_number(buf, first, b"slot", number);
-    let third = smp::put_text(buf, second, b"version");
-    put_version_text(buf, third, major, minor, revision)
-}
-
-// Writes the map of an image in s, the slot of this number, into buf from place at on, and gives the place after it.
-fn put_image(buf: &mut [u8], at: usize, number: u64, s: &[u8], image: Image) -> usize
-    requires image_within { ImageWithin s.now image }
-    requires image_in_bounds { at + length (image_map number s.now image) ≤ length buf.old }
-    ensures { Put result buf.new buf.old at (image_map number s.now image) }
-{
-    let Image::At {
-        major,
-        minor,
-        revision,
-        hash,
-    } = image
-    else {
-        return at;
+    smp::put_text(out, b"hash");
+    let hash = Run {
+        start: hash,
+        len: 32,
     };
-    let first = put_named(buf, at, number, major, minor, revision);
-    let second = smp::put_text(buf, first, b"hash");
-    put_hash(buf, second, s, hash)
+    smp::put_string(out, 2, hash.of(s));
 }
 
-// How many images a slot has.
-fn count(image: Image) -> usize
-    ensures { (result ≡ image_count image) × (result ≤ 1) }
-{
-    match image {
-        Image::Absent => 0,
-        Image::At {
-            major: _,
-            minor: _,
-            revision: _,
-            hash: _,
-        } => 1,
+// A slot's bytes and the image in them.
+#[derive(Clone, Copy)]
+struct Listed<'a> {
+    bytes: &'a [u8],
+    image: Option<Image>,
+    // the image's hash lies in the slot
+    ghost within: { ForSome image (λ i. i.hash + 32 ≤ length bytes.now) },
+}
+
+impl<'a> Listed<'a> {
+    // A slot of the memory, read.
+    fn new(memory: &'a [u8], slot: Slot) -> Listed<'a>
+        requires { slot.start + slot.size ≤ length memory.now }
+        ensures { (result.bytes.now ≡ slot_in slot memory.now) × (result.image ≡ image_at_def memory.now slot) }
+    {
+        let slot = Run {
+            start: slot.start,
+            len: slot.size,
+        };
+        let bytes = slot.of(memory);
+        Listed {
+            bytes,
+            image: images::image_in(bytes),
+        }
+    }
+
+    // How many images the slot has.
+    #[tactic(auto, unfolding(crate::specs::Listing::image_count))]
+    fn count(&self) -> u64
+        ensures { (result ≡ image_count self.now.image) × (result ≤ 1) }
+    {
+        u64::from(self.image.is_some())
+    }
+
+    // How long the map of the slot's image is, for a slot's number of one digit.
+    #[tactic(auto, unfolding(crate::specs::Inner::image_length))]
+    fn map_len(&self) -> usize
+        ensures { (result ≡ image_length self.now.image) × (result ≤ 72) }
+    {
+        self.image
+            .map_or(0, |image| 55 + version_len(image.version))
+    }
+
+    // Writes the map of the slot's image; the slot has this number.
+    #[tactic(auto, unfolding(crate::specs::Listing::image_map))]
+    fn put_map(&self, out: &mut Writer, number: u64)
+        requires { HasRoom out.old (image_map number self.now.bytes.now self.now.image) }
+        ensures { Wrote out.old out.new (image_map number self.now.bytes.now self.now.image) }
+    {
+        let Some(image) = self.image else {
+            return;
+        };
+        cbor::put_head(out, 5, 3);
+        smp::put_number(out, b"slot", number);
+        put_version(out, image.version);
+        let bytes = self.bytes;
+        put_hash(out, bytes, image.hash);
     }
 }
 
-// How long an image's map is: that of a slot with one digit.
-fn image_len(image: Image) -> usize
-    ensures { (result ≡ image_length image) × (result ≤ 72) }
+// Writes the list's map.
+fn put_list(out: &mut Writer, first: &Listed, second: &Listed)
+    requires { HasRoom out.old (map_listed first.now.bytes.now first.now.image second.now.bytes.now second.now.image) }
+    ensures { Wrote out.old out.new (map_listed first.now.bytes.now first.now.image second.now.bytes.now second.now.image) }
 {
-    let Image::At {
-        major,
-        minor,
-        revision,
-        hash: _,
-    } = image
-    else {
-        return 0;
-    };
-    55 + version_len(major, minor, revision)
-}
-
-// The image of a slot of the memory.
-fn image_at(memory: &[u8], slot: Slot) -> Image
-    requires { slot.start + slot.size ≤ length memory.now }
-    ensures { (result ≡ image_at_def memory.now slot) × ImageWithin (slot_in slot memory.now) result }
-{
-    let start = slot.start;
-    let end = start + slot.size;
-    images::image_in(&memory[start..end])
-}
-
-// Writes the map of a slot's image into buf from place at on, and gives the place after it.
-fn put_slot(
-    buf: &mut [u8],
-    at: usize,
-    number: u64,
-    memory: &[u8],
-    slot: Slot,
-    image: Image,
-) -> usize
-    requires size_in_bounds { slot.start + slot.size ≤ length memory.now }
-    requires image_within { ImageWithin (slot_in slot memory.now) image }
-    requires image_in_bounds { at + length (image_map number (slot_in slot memory.now) image) ≤ length buf.old }
-    ensures { Put result buf.new buf.old at (image_map number (slot_in slot memory.now) image) }
-{
-    let start = slot.start;
-    let end = start + slot.size;
-    put_image(buf, at, number, &memory[start..end], image)
-}
-
-// Writes what stands before the images of a list into buf from place 8 on, and gives the place after it.
-fn put_front(buf: &mut [u8], n: usize) -> usize
-    requires { 8 + length (list_front n) ≤ length buf.old }
-    ensures { Put result buf.new buf.old 8 (list_front n) }
-{
-    let first = cbor::put_head(buf, 8, 5, 1);
-    let second = smp::put_text(buf, first, b"images");
-    cbor::put_head(buf, second, 4, n as u64)
-}
-
-// Writes a list that fits to the start of buf, and gives how long the reply is.
-fn put_list(
-    h: Header,
-    memory: &[u8],
-    layout: Layout,
-    first: Image,
-    second: Image,
-    buf: &mut [u8],
-) -> usize
-    requires op_bound { h.op < 255 }
-    requires memory_value { layout_ok layout (length memory.now) ≡ true }
-    requires first_value { (first ≡ image_at_def memory.now layout.slot0) × (second ≡ image_at_def memory.now layout.slot1) }
-    requires image_within { ImageWithin (slot_in layout.slot0 memory.now) first × ImageWithin (slot_in layout.slot1 memory.now) second }
-    requires layout_in_bounds { 8 + length (list_map memory.now layout) ≤ length buf.old }
-    ensures { Put result buf.new buf.old 0 (reply_packet h (list_map memory.now layout)) }
-{
-    let n = count(first) + count(second);
-    let slot0 = layout.slot0;
-    let slot1 = layout.slot1;
-    let from = put_front(buf, n);
-    let next = put_slot(buf, from, 0, memory, slot0, first);
-    let end = put_slot(buf, next, 1, memory, slot1, second);
-    smp::put_reply_header(h, buf, end);
-    end
+    let n = first.count() + second.count();
+    cbor::put_head(out, 5, 1);
+    smp::put_text(out, b"images");
+    cbor::put_head(out, 4, n);
+    first.put_map(out, 0);
+    second.put_map(out, 1);
 }
 
 // Writes the list of the images in both slots as a reply to the start of buf, or rc 7 where it is longer than buf; gives how long the reply is.
@@ -197,13 +146,15 @@ pub fn write_list(h: Header, memory: &[u8], layout: Layout, buf: &mut [u8]) -> u
     requires memory_value { layout_ok layout (length memory.now) ≡ true }
     ensures { Written h (list_map memory.now layout) buf.old result buf.new }
 {
-    let slot0 = layout.slot0;
-    let slot1 = layout.slot1;
-    let first = image_at(memory, slot0);
-    let second = image_at(memory, slot1);
-    let size = 17 + image_len(first) + image_len(second);
+    let first = Listed::new(memory, layout.slot0);
+    let second = Listed::new(memory, layout.slot1);
+    let size = 17 + first.map_len() + second.map_len();
     if buf.len() < size {
         return smp::put_too_long(h, buf);
     }
-    put_list(h, memory, layout, first, second, buf)
+    let mut out = Writer { buf, at: 8 };
+    put_list(&mut out, &first, &second);
+    let end = out.at;
+    smp::put_reply_header(h, out.buf, end);
+    end
 }

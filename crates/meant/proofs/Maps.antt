@@ -2,7 +2,7 @@
 -- Assumes nothing.
 use mathlib.Core.Path.{◌≡◌, refl, sym, ap, ◌∙◌}
 use mathlib.Core.List.{List, [], ◌++◌, append_assoc}
-use mathlib.Core.Option.{some}
+use Rattle.std.specs.Prelude.{Some}
 use Prim.Native.Nat.{ℕ, suc, ◌+◌, ◌^◌, ◌<◌}
 use lib.Dec.{lit<}
 use lib.ListN.{length, take, drop}
@@ -10,9 +10,11 @@ use Rattle.laws.specs.Choice.{pick, both}
 use Rattle.laws.specs.Bytes.{same}
 use Rattle.cbor.specs.declared.Value.{Value}
 use Rattle.cbor.specs.declared.Value.TheVariants.{Unsigned}
+use Rattle.cbor.specs.Inner.{run_is}
 use Rattle.cbor.specs.Write.{head_of, unsigned, bytes_of, text_of, map_of}
 use Rattle.fields.specs.declared.Kind.{Kind}
 use Rattle.fields.specs.declared.Key.{Key}
+use Rattle.fields.specs.declared.Fields.{Fields}
 use Rattle.fields.specs.Keys.{name_d, name_r, name_rc, name_data, name_len, name_off, name_sha, key_of, type_for_def}
 use Rattle.fields.specs.Fields.{index_of, nothing, stored}
 use Rattle.map.specs.Walk.{map_from_def}
@@ -25,47 +27,47 @@ use Rattle.uploads.proofs.Maps.{later_parts, first_untagged, first_tagged}
 use Rattle.meant.proofs.Walking.{step_number, step_bytes, step_text, string_there, map_start, walk_over, next_part, last_part}
 
 -- "d" of an echo is the text
-pub key_d : key_of Kind.Echo name_d ≡ Key.Text
+pub key_d : key_of Kind.Echo name_d ≡ Some Key.Text
 unfolding key_of pick same both
 key_d = refl
 
 -- "r" of a reply is the text
-pub key_r : key_of Kind.Reply name_r ≡ Key.Text
+pub key_r : key_of Kind.Reply name_r ≡ Some Key.Text
 unfolding key_of pick same both
 key_r = refl
 
 -- "rc" of a reply is the return code
-key_rc : key_of Kind.Reply name_rc ≡ Key.Rc
+key_rc : key_of Kind.Reply name_rc ≡ Some Key.Rc
 unfolding key_of pick same both
 key_rc = refl
 
 -- "off" of a reply is the offset
-key_reply_off : key_of Kind.Reply name_off ≡ Key.Off
+key_reply_off : key_of Kind.Reply name_off ≡ Some Key.Off
 unfolding key_of pick same both
 key_reply_off = refl
 
 -- "data" of an upload is the data
-key_data : key_of Kind.Upload name_data ≡ Key.Data
+key_data : key_of Kind.Upload name_data ≡ Some Key.Data
 unfolding key_of pick same both
 key_data = refl
 
 -- "len" of an upload is the length
-key_len : key_of Kind.Upload name_len ≡ Key.Len
+key_len : key_of Kind.Upload name_len ≡ Some Key.Len
 unfolding key_of pick same both
 key_len = refl
 
 -- "off" of an upload is the offset
-key_off : key_of Kind.Upload name_off ≡ Key.Off
+key_off : key_of Kind.Upload name_off ≡ Some Key.Off
 unfolding key_of pick same both
 key_off = refl
 
 -- "sha" of an upload is the tag
-key_sha : key_of Kind.Upload name_sha ≡ Key.Sha
+key_sha : key_of Kind.Upload name_sha ≡ Some Key.Sha
 unfolding key_of pick same both
 key_sha = refl
 
 -- an empty map
-pub empty_read : (kind : Kind) (s pre : List ℕ) → s ≡ pre ++ map_of 0 → length pre ≡ 8 → map_from_def kind s 8 ≡ some nothing
+pub empty_read : (kind : Kind) (s pre : List ℕ) → s ≡ pre ++ map_of 0 → length pre ≡ 8 → map_from_def kind s 8 ≡ Some nothing
 empty_read kind s pre parts eight =
     map_start kind s pre [] 0 (last_part pre (map_of 0) parts) eight (lit< tt) ∙ walk_over kind s (pre ++ map_of 0) nothing parts
 
@@ -80,8 +82,8 @@ module _ (kind : Kind) (s pre k x : List ℕ) (parts : s ≡ pre ++ (map_of 1 ++
   text_parts = last_part (pre ++ map_of 1) (text_of k ++ text_of x) (next_part pre (map_of 1) (text_of k ++ text_of x) parts)
 
   -- it is read as the text under that key
-  pub text_read : length pre ≡ 8 → key_of kind k ≡ Key.Text → length k < 2 ^ 64 → length x < 2 ^ 64 → map_from_def kind s 8
-      ≡ some (stored Key.Text (Value.Text (text_at pre k x) (length x)) nothing)
+  pub text_read : length pre ≡ 8 → key_of kind k ≡ Some Key.Text → length k < 2 ^ 64 → length x < 2 ^ 64 → map_from_def kind s 8
+      ≡ Some (stored Key.Text (Value.Text (run_is (text_at pre k x) (length x))) nothing)
   unfolding index_of type_for_def
   text_read eight is small fits =
       let p : List ℕ = pre ++ map_of 1 in
@@ -94,7 +96,7 @@ module _ (kind : Kind) (s pre k x : List ℕ) (parts : s ≡ pre ++ (map_of 1 ++
   text_there_lem = string_there s (pre ++ map_of 1) (text_of k) (head_of 3 (length x)) x [] text_parts
 
 -- a reply with a return code alone
-pub rc_read : (s pre : List ℕ) (n : ℕ) → s ≡ pre ++ rc_map n → length pre ≡ 8 → n < 2 ^ 64 → map_from_def Kind.Reply s 8 ≡ some (stored Key.Rc (Unsigned n) nothing)
+pub rc_read : (s pre : List ℕ) (n : ℕ) → s ≡ pre ++ rc_map n → length pre ≡ 8 → n < 2 ^ 64 → map_from_def Kind.Reply s 8 ≡ Some (stored Key.Rc (Unsigned n) nothing)
 unfolding index_of type_for_def
 rc_read s pre n parts eight fits =
     let pair : List ℕ = text_of name_rc ++ unsigned n in
@@ -105,7 +107,7 @@ rc_read s pre n parts eight fits =
 
 -- a reply with the return code 0 and an offset
 pub placed_read : (s pre q : List ℕ) (n : ℕ) → s ≡ pre ++ reply_map q (Answered.Placed n) → length pre ≡ 8 → n < 2 ^ 64 → map_from_def Kind.Reply s 8
-    ≡ some (stored Key.Off (Unsigned n) (stored Key.Rc (Unsigned 0) nothing))
+    ≡ Some (stored Key.Off (Unsigned n) (stored Key.Rc (Unsigned 0) nothing))
 unfolding reply_map stored index_of type_for_def
 placed_read s pre q n parts eight fits =
     let p : List ℕ = pre ++ map_of 2 in
@@ -124,16 +126,14 @@ abbrev pub data_at : List ℕ → ℕ → List ℕ → ℕ
 data_at pre n x = length ((pre ++ map_of n) ++ text_of name_data) + length (head_of 2 (length x))
 
 -- the data's field
-abbrev pub with_data : ℕ → ℕ → List ℕ
-with_data start n = stored Key.Data (Value.Bytes start n) nothing
+abbrev pub with_data : ℕ → ℕ → Fields
+with_data start n = stored Key.Data (Value.Bytes (run_is start n)) nothing
 
 -- an upload past offset 0
 module _ (s pre x : List ℕ) (off : ℕ) (parts : s ≡ pre ++ later_map x off) where
   -- the map's head and its two pairs
   later_all : s ≡ pre ++ (map_of 2 ++ ((text_of name_data ++ bytes_of x) ++ (text_of name_off ++ unsigned off)))
-  later_all =
-      parts
-      ∙ ap (λ (l : List ℕ). pre ++ l) (later_parts x off ∙ append_assoc (map_of 2) (text_of name_data ++ bytes_of x) (text_of name_off ++ unsigned off))
+  later_all = parts ∙ ap (λ (l : List ℕ). pre ++ l) (later_parts x off)
 
   -- the head goes to what stands before the pairs
   later_one : s ≡ (pre ++ map_of 2) ++ ((text_of name_data ++ bytes_of x) ++ (text_of name_off ++ unsigned off))
@@ -141,7 +141,7 @@ module _ (s pre x : List ℕ) (off : ℕ) (parts : s ≡ pre ++ later_map x off)
 
   -- it is read as the data and the offset
   pub later_read : length pre ≡ 8 → length x < 2 ^ 64 → off < 2 ^ 64 → map_from_def Kind.Upload s 8
-      ≡ some (stored Key.Off (Unsigned off) (with_data (data_at pre 2 x) (length x)))
+      ≡ Some (stored Key.Off (Unsigned off) (with_data (data_at pre 2 x) (length x)))
   unfolding stored index_of type_for_def
   later_read eight fits small =
       let p : List ℕ = pre ++ map_of 2 in
@@ -158,16 +158,18 @@ module _ (s pre x : List ℕ) (off : ℕ) (parts : s ≡ pre ++ later_map x off)
   later_there = string_there s (pre ++ map_of 2) (text_of name_data) (head_of 2 (length x)) x (text_of name_off ++ unsigned off) later_one
 
 -- the fields of the pairs that every upload at offset 0 has
-abbrev pub pairs_fields : ℕ → ℕ → ℕ → List ℕ
+abbrev pub pairs_fields : ℕ → ℕ → ℕ → Fields
 pairs_fields start n size = stored Key.Off (Unsigned 0) (stored Key.Len (Unsigned size) (with_data start n))
 
 -- those pairs, before what follows them
 module _ (s p x : List ℕ) (size : ℕ) (post : List ℕ) (parts : s ≡ p ++ (first_pairs x size ++ post)) where
   -- the pairs one by one
   pairs_all : s ≡ p ++ ((text_of name_data ++ bytes_of x) ++ ((text_of name_len ++ unsigned size) ++ ((text_of name_off ++ unsigned 0) ++ post)))
-  pairs_all = parts ∙ ap (λ (l : List ℕ). p ++ l) (regroup (text_of name_data ++ bytes_of x) (text_of name_len ++ unsigned size) (text_of name_off ++ unsigned 0) post)
+  pairs_all =
+      parts
+      ∙ ap (λ (l : List ℕ). p ++ l) (regroup (text_of name_data ++ bytes_of x) (text_of name_len ++ unsigned size) (text_of name_off ++ unsigned 0) post)
     where
-      regroup : (a b c d : List ℕ) → ((a ++ b) ++ c) ++ d ≡ a ++ (b ++ (c ++ d))
+      regroup : (a b c d : List ℕ) → (a ++ (b ++ c)) ++ d ≡ a ++ (b ++ (c ++ d))
       regroup a b c d = simp append_assoc
 
   -- the walk goes on over all three
@@ -182,7 +184,7 @@ module _ (s p x : List ℕ) (size : ℕ) (post : List ℕ) (parts : s ≡ p ++ (
       let o : List ℕ = text_of name_off ++ unsigned 0 in
       let two : s ≡ (p ++ d) ++ (l ++ (o ++ post)) = next_part p d (l ++ (o ++ post)) pairs_all in
       let three : s ≡ ((p ++ d) ++ l) ++ (o ++ post) = next_part (p ++ d) l (o ++ post) two in
-      let end : ((p ++ d) ++ l) ++ o ≡ p ++ first_pairs x size = ap (λ (y : List ℕ). y ++ o) (append_assoc p d l) ∙ append_assoc p (d ++ l) o in
+      let end : ((p ++ d) ++ l) ++ o ≡ p ++ first_pairs x size = append_assoc (p ++ d) l o ∙ append_assoc p d (l ++ o) in
       step_bytes Kind.Upload s p name_data x (l ++ (o ++ post)) nothing Key.Data (suc (suc count)) pairs_all key_data (lit< tt) fits refl refl
       ∙ step_number Kind.Upload s (p ++ d) name_len (o ++ post) _ Key.Len size (suc count) two key_len (lit< tt) small refl refl
       ∙ step_number Kind.Upload s ((p ++ d) ++ l) name_off post _ Key.Off 0 count three key_off (lit< tt) (lit< tt) refl refl
@@ -205,7 +207,7 @@ module _ (s pre x : List ℕ) (size : ℕ) (tag : List ℕ) (none : length tag �
   untagged_one = last_part (pre ++ map_of 3) (first_pairs x size) (next_part pre (map_of 3) (first_pairs x size) untagged_all)
 
   -- it is read as the data, the length and the offset 0
-  pub untagged_read : length pre ≡ 8 → length x < 2 ^ 64 → size < 2 ^ 64 → map_from_def Kind.Upload s 8 ≡ some (pairs_fields (data_at pre 3 x) (length x) size)
+  pub untagged_read : length pre ≡ 8 → length x < 2 ^ 64 → size < 2 ^ 64 → map_from_def Kind.Upload s 8 ≡ Some (pairs_fields (data_at pre 3 x) (length x) size)
   untagged_read eight fits small =
       map_start Kind.Upload s pre (first_pairs x size) 3 untagged_all eight (lit< tt)
       ∙ pairs_read s (pre ++ map_of 3) x size [] untagged_one fits small 0
@@ -223,9 +225,7 @@ tag_place pre x size tag = length (((pre ++ map_of 4) ++ first_pairs x size) ++ 
 module _ (s pre x : List ℕ) (size : ℕ) (tag : List ℕ) (full : length tag ≡ 0 → ⊥) (parts : s ≡ pre ++ first_map x size tag) where
   -- the map's head, its pairs and the tag
   tagged_all : s ≡ pre ++ (map_of 4 ++ (first_pairs x size ++ (text_of name_sha ++ bytes_of tag)))
-  tagged_all =
-      parts
-      ∙ ap (λ (l : List ℕ). pre ++ l) (first_tagged x size tag full ∙ append_assoc (map_of 4) (first_pairs x size) (text_of name_sha ++ bytes_of tag))
+  tagged_all = parts ∙ ap (λ (l : List ℕ). pre ++ l) (first_tagged x size tag full)
 
   -- the head goes to what stands before the pairs
   tagged_one : s ≡ (pre ++ map_of 4) ++ (first_pairs x size ++ (text_of name_sha ++ bytes_of tag))
@@ -241,7 +241,8 @@ module _ (s pre x : List ℕ) (size : ℕ) (tag : List ℕ) (full : length tag �
 
   -- it is read as the data, the length, the offset 0 and the tag
   pub tagged_read : length pre ≡ 8 → length x < 2 ^ 64 → size < 2 ^ 64 → length tag < 2 ^ 64
-      → map_from_def Kind.Upload s 8 ≡ some (stored Key.Sha (Value.Bytes (tag_place pre x size tag) (length tag)) (pairs_fields (data_at pre 4 x) (length x) size))
+      → map_from_def Kind.Upload s 8
+      ≡ Some (stored Key.Sha (Value.Bytes (run_is (tag_place pre x size tag) (length tag))) (pairs_fields (data_at pre 4 x) (length x) size))
   unfolding stored index_of type_for_def
   tagged_read eight fits small short =
       let p : List ℕ = (pre ++ map_of 4) ++ first_pairs x size in

@@ -4,36 +4,37 @@
 use mathlib.Core.Path.{◌≡◌, refl, sym, subst, ap, ap₂, ◌∙◌}
 use mathlib.Core.Bool.{Bool, true, false, not}
 use mathlib.Core.List.{List, [], ◌∷◌, ◌++◌}
-use mathlib.Core.Option.{Option, some}
+use Rattle.std.specs.Prelude.{Option, Some, None, Result, Ok}
 use Prim.Native.Nat.{ℕ, ◌+◌, ◌-◌, ◌^◌, ◌≤◌, ◌<◌}
 use native.Mathlib.Decide.{dec_le}
 use native.Mathlib.Omega.{arith}
 use lib.Dec.{ltb, eqb, lit<}
 use lib.ListN.{length, take, drop, length-take, length-drop}
 use borrow.Author.Tests.{eq-eqb, ne_eqb, le-ltb, ltb-false}
-use Rattle.laws.specs.declared.Number.{Number}
 use Rattle.laws.specs.declared.Run.{Run}
 use Rattle.laws.specs.Choice.{pick, both}
 use Rattle.laws.specs.Bytes.{Bytes, of_be16}
-use Rattle.laws.specs.Parts.{bytes_in, is_there_def}
+use Rattle.laws.specs.Parts.{bytes_in}
 use Rattle.laws.proofs.Choice.{pick_yes, pick_no, both_true}
 use Rattle.laws.proofs.Lists.{bytes_drop}
+use Rattle.reason.specs.declared.Reason.{Reason}
 use Rattle.reason.specs.Rc.{rc_of_def}
 use Rattle.reason.proofs.Byte.{rc_byte}
 use Rattle.cbor.specs.declared.Value.{Value}
 use Rattle.cbor.specs.declared.Value.TheVariants.{Unsigned}
+use Rattle.cbor.specs.Inner.{run_is}
 use Rattle.cbor.specs.Write.{text_of, map_of}
 use Rattle.fields.specs.declared.Kind.{Kind}
 use Rattle.fields.specs.declared.Key.{Key}
+use Rattle.fields.specs.declared.Fields.{Fields}
 use Rattle.fields.specs.Keys.{name_d, name_r}
-use Rattle.fields.specs.Fields.{index_of, first_of, second_of, stored, number_in_def, run_in_def, flag_in_def}
+use Rattle.fields.specs.Fields.{index_of, stored, as_number, as_run, as_flag, number_in_def, run_in_def, flag_in_def}
 use Rattle.map.specs.Walk.{map_from_def}
 use Rattle.rules.specs.declared.Upload.{Upload}
 use Rattle.rules.specs.Plan.{above, largest}
 use Rattle.smp.specs.declared.Header.{Header}
 use Rattle.requests.specs.declared.Command.{Command}
 use Rattle.requests.specs.declared.Request.{Request}
-use Rattle.requests.specs.declared.Reading.{Reading}
 use Rattle.smp.specs.declared.Reply.{Reply as Answered}
 use Rattle.smp.specs.Packet.{header_in_def, sized, header_bytes}
 use Rattle.requests.specs.Request.{command_of_def, mapped, echo_with, erase_with, upload_with, upload_of_def, request_of_def, is_request_def, read_request_def}
@@ -98,13 +99,13 @@ front_length : (group sequence command : ℕ) (m : List ℕ) → length (front g
 front_length group sequence command m = header_length (request_header group sequence command (length m))
 
 -- a request that may be sent is read as what its command asks for
-request_read : (group sequence command : ℕ) (m : List ℕ) → group < 65536 → length (request_packet group sequence command m) ≤ 65533 → (c : Command)
+request_read : (group sequence command : ℕ) (m : List ℕ) → group < 65536 → length (request_packet group sequence command m) ≤ 65533 → (c : Option Command)
     → command_of_def (request_header group sequence command (length m)) ≡ c
-    → read_request_def (request_packet group sequence command m) ≡ Reading.Is (request_of_def c (request_packet group sequence command m))
+    → read_request_def (request_packet group sequence command m) ≡ Some (request_of_def c (request_packet group sequence command m))
 unfolding request_packet
 request_read group sequence command m small most c is =
     header_read (request_header group sequence command (length m)) m refl refl (omega (arith, request_length group sequence command m)) small
-    ∙ ap (λ (x : Command). Reading.Is (request_of_def x (front group sequence command m ++ m))) is
+    ∙ ap (λ (x : Option Command). Some (request_of_def x (front group sequence command m ++ m))) is
 
 -- its header is read back
 request_headed : (group sequence command : ℕ) (m : List ℕ) → group < 65536 → length (request_packet group sequence command m) ≤ 65533
@@ -117,22 +118,22 @@ request_headed group sequence command m small most =
     ∙ ap (λ (k : ℕ). request_header group sequence command k) e
 
 -- an echo request's header names the echo
-echo_command : (sequence n : ℕ) → command_of_def (request_header 0 sequence 0 n) ≡ Command.Echo
+echo_command : (sequence n : ℕ) → command_of_def (request_header 0 sequence 0 n) ≡ Some Command.Echo
 unfolding command_of_def pick both
 echo_command sequence n = refl
 
 -- a reset's names the reset
-reset_command : (sequence n : ℕ) → command_of_def (request_header 0 sequence 5 n) ≡ Command.Reset
+reset_command : (sequence n : ℕ) → command_of_def (request_header 0 sequence 5 n) ≡ Some Command.Reset
 unfolding command_of_def pick both
 reset_command sequence n = refl
 
 -- an upload's names the upload
-upload_command : (sequence n : ℕ) → command_of_def (request_header 1 sequence 1 n) ≡ Command.Upload
+upload_command : (sequence n : ℕ) → command_of_def (request_header 1 sequence 1 n) ≡ Some Command.Upload
 unfolding command_of_def pick both
 upload_command sequence n = refl
 
 -- an erase's names the erase
-erase_command : (sequence n : ℕ) → command_of_def (request_header 1 sequence 5 n) ≡ Command.Erase
+erase_command : (sequence n : ℕ) → command_of_def (request_header 1 sequence 5 n) ≡ Some Command.Erase
 unfolding command_of_def pick both
 erase_command sequence n = refl
 
@@ -146,14 +147,14 @@ reset_meant sequence out n e =
     (record {
       header = request_headed 0 sequence 5 (map_of 0) (lit< tt) w.0;
       read =
-          request_read 0 sequence 5 (map_of 0) (lit< tt) w.0 Command.Reset (reset_command sequence (length (map_of 0)))
-          ∙ ap (λ (m : Option (List ℕ)). Reading.Is (mapped (λ (f : List ℕ). Request.Reset) m))
+          request_read 0 sequence 5 (map_of 0) (lit< tt) w.0 (Some Command.Reset) (reset_command sequence (length (map_of 0)))
+          ∙ ap (λ (m : Option Fields). Some (mapped (λ (f : Fields). Ok Request.Reset) m))
           (empty_read Kind.Bare p (front 0 sequence 5 (map_of 0)) (request_parts 0 sequence 5 (map_of 0)) (front_length 0 sequence 5 (map_of 0)));
     })
 
 -- so is an erase
 pub erase_meant : EraseMeant
-unfolding write_erase_def request_of_def mapped erase_with number_in_def index_of pick
+unfolding write_erase_def request_of_def mapped erase_with number_in_def as_number index_of pick
 erase_meant sequence out n e =
     let p : List ℕ = request_packet 1 sequence 5 (map_of 0) in
     let w = sent_whole p out n e in
@@ -161,14 +162,14 @@ erase_meant sequence out n e =
     (record {
       header = request_headed 1 sequence 5 (map_of 0) (lit< tt) w.0;
       read =
-          request_read 1 sequence 5 (map_of 0) (lit< tt) w.0 Command.Erase (erase_command sequence (length (map_of 0)))
-          ∙ ap (λ (m : Option (List ℕ)). Reading.Is (mapped (λ (f : List ℕ). erase_with (number_in_def f Key.Slot)) m))
+          request_read 1 sequence 5 (map_of 0) (lit< tt) w.0 (Some Command.Erase) (erase_command sequence (length (map_of 0)))
+          ∙ ap (λ (m : Option Fields). Some (mapped (λ (f : Fields). erase_with (number_in_def f Key.Slot)) m))
           (empty_read Kind.Erase p (front 1 sequence 5 (map_of 0)) (request_parts 1 sequence 5 (map_of 0)) (front_length 1 sequence 5 (map_of 0)));
     })
 
 -- an echo that was written is read as the echo of that text
 pub echo_meant : EchoMeant
-unfolding write_echo_def echo_map request_of_def mapped echo_with run_in_def stored index_of first_of second_of pick
+unfolding write_echo_def echo_map request_of_def mapped echo_with run_in_def stored index_of as_number as_run as_flag pick
 echo_meant sequence text out n e =
     let m : List ℕ = echo_map text in
     let p : List ℕ = request_packet 0 sequence 0 m in
@@ -182,8 +183,8 @@ echo_meant sequence text out n e =
           (record {
             header = request_headed 0 sequence 0 m (lit< tt) w.0;
             read =
-                request_read 0 sequence 0 m (lit< tt) w.0 Command.Echo (echo_command sequence (length m))
-                ∙ ap (λ (x : Option (List ℕ)). Reading.Is (mapped (λ (f : List ℕ). echo_with (run_in_def f Key.Text)) x))
+                request_read 0 sequence 0 m (lit< tt) w.0 (Some Command.Echo) (echo_command sequence (length m))
+                ∙ ap (λ (x : Option Fields). Some (mapped (λ (f : Fields). echo_with (run_in_def f Key.Text)) x))
                 (text_read Kind.Echo p pre name_d text parts (front_length 0 sequence 0 m) key_d (lit< tt) fits);
             text_is = text_there_lem Kind.Echo p pre name_d text parts;
           }),
@@ -256,7 +257,7 @@ module _ (s m : List ℕ) (small : (header_in_def s).group < 65536) (is : is_req
       asked = request_op s is
 
 -- a reply whose numbers are small enough is read as its values
-values_heard : (p f : List ℕ) (h : Header) (rc off : Number) (text : Run) → header_in_def p ≡ h
+values_heard : (p : List ℕ) (f : Fields) (h : Header) (rc off : Option ℕ) (text : Option Run) → header_in_def p ≡ h
     → number_in_def f Key.Rc ≡ rc → number_in_def f Key.Off ≡ off → run_in_def f Key.Text ≡ text
     → above largest rc ≡ false → above largest off ≡ false
     → values_of p f ≡ reply (record { header = h; rc = or_zero rc; off = off; text = text })
@@ -267,33 +268,33 @@ values_heard p f h rc off text back a b c small less =
 -- a reply with a return code is read as that code
 rc_meant_lem : (s : List ℕ) (n : ℕ) → (header_in_def s).group < 65536 → is_request_def s ≡ true → n < 256 → 8 + length (rc_map n) ≤ 65533
     → read_reply_def (reply_packet (header_in_def s) (rc_map n))
-    ≡ reply (record { header = answer s (rc_map n); rc = n; off = Number.Absent; text = Run.Absent })
-unfolding map_read number_in_def run_in_def or_zero above stored index_of first_of second_of pick
+    ≡ reply (record { header = answer s (rc_map n); rc = n; off = None; text = None })
+unfolding map_read number_in_def run_in_def or_zero above stored index_of as_number as_run as_flag pick
 rc_meant_lem s n group is small most =
     let m : List ℕ = rc_map n in
     let p : List ℕ = reply_packet (header_in_def s) m in
     let fits : n < 2 ^ 64 = omega arith in
     reply_read s m group is most
     ∙ ap (map_read p) (rc_read p (header_bytes (answer s m)) n (reply_parts s m) (header_length (answer s m)) fits)
-    ∙ values_heard p _ (answer s m) (Number.Is n) Number.Absent Run.Absent (answer_back s m group is most) refl refl refl
+    ∙ values_heard p _ (answer s m) (Some n) None None (answer_back s m group is most) refl refl refl
     (le-ltb largest n (omega arith)) refl
 
 -- a reply with an offset is read as success and that offset
 placed_meant : (s : List ℕ) (n : ℕ) → (header_in_def s).group < 65536 → is_request_def s ≡ true → n < 4294967296 → 8 + length (reply_map s (Answered.Placed n)) ≤ 65533
     → read_reply_def (reply_packet (header_in_def s) (reply_map s (Answered.Placed n)))
-    ≡ reply (record { header = answer s (reply_map s (Answered.Placed n)); rc = 0; off = Number.Is n; text = Run.Absent })
-unfolding map_read number_in_def run_in_def or_zero above stored index_of first_of second_of pick
+    ≡ reply (record { header = answer s (reply_map s (Answered.Placed n)); rc = 0; off = Some n; text = None })
+unfolding map_read number_in_def run_in_def or_zero above stored index_of as_number as_run as_flag pick
 placed_meant s n group is small most =
     let m : List ℕ = reply_map s (Answered.Placed n) in
     let p : List ℕ = reply_packet (header_in_def s) m in
     let fits : n < 2 ^ 64 = omega arith in
     reply_read s m group is most
     ∙ ap (map_read p) (placed_read p (header_bytes (answer s m)) s n (reply_parts s m) (header_length (answer s m)) fits)
-    ∙ values_heard p _ (answer s m) (Number.Is 0) (Number.Is n) Run.Absent (answer_back s m group is most) refl refl refl
+    ∙ values_heard p _ (answer s m) (Some 0) (Some n) None (answer_back s m group is most) refl refl refl
     refl (le-ltb largest n (omega arith))
 
 -- the map of an echo's reply
-text_form : (s : List ℕ) (from len : ℕ) → reply_map s (Answered.Text from len) ≡ map_of 1 ++ (text_of name_r ++ text_of (take len (drop from s)))
+text_form : (s : List ℕ) (from len : ℕ) → reply_map s (Answered.Text (run_is from len)) ≡ map_of 1 ++ (text_of name_r ++ text_of (take len (drop from s)))
 unfolding reply_map
 text_form s from len = refl
 
@@ -303,26 +304,26 @@ part_length s from len h = simp (length-take, length-drop) (omega arith)
 
 -- a reply with a text is read as success and the place of that text
 text_meant_lem : (s : List ℕ) (from len : ℕ) → (header_in_def s).group < 65536 → is_request_def s ≡ true → from + len ≤ length s
-    → 8 + length (reply_map s (Answered.Text from len)) ≤ 65533
+    → 8 + length (reply_map s (Answered.Text (run_is from len))) ≤ 65533
     → (start : ℕ)
-    × (read_reply_def (reply_packet (header_in_def s) (reply_map s (Answered.Text from len)))
-    ≡ reply (record { header = answer s (reply_map s (Answered.Text from len)); rc = 0; off = Number.Absent; text = Run.At start len }))
-    × (take len (drop start (reply_packet (header_in_def s) (reply_map s (Answered.Text from len)))) ≡ take len (drop from s))
-unfolding map_read number_in_def run_in_def or_zero above stored index_of first_of second_of pick
+    × (read_reply_def (reply_packet (header_in_def s) (reply_map s (Answered.Text (run_is from len))))
+    ≡ reply (record { header = answer s (reply_map s (Answered.Text (run_is from len))); rc = 0; off = None; text = Some (run_is start len) }))
+    × (take len (drop start (reply_packet (header_in_def s) (reply_map s (Answered.Text (run_is from len))))) ≡ take len (drop from s))
+unfolding map_read number_in_def run_in_def or_zero above stored index_of as_number as_run as_flag pick
 text_meant_lem s from len group is inside most =
-    let m : List ℕ = reply_map s (Answered.Text from len) in
+    let m : List ℕ = reply_map s (Answered.Text (run_is from len)) in
     let p : List ℕ = reply_packet (header_in_def s) m in
     let pre : List ℕ = header_bytes (answer s m) in
     let x : List ℕ = take len (drop from s) in
     let size : length x ≡ len = part_length s from len inside in
-    let fits : length x < 2 ^ 64 = omega (arith, text_map s from len inside) in
+    let fits : length x < 2 ^ 64 = omega (arith, text_map s (run_is from len) inside) in
     let parts : p ≡ pre ++ (map_of 1 ++ (text_of name_r ++ text_of x)) = reply_parts s m ∙ ap (λ (l : List ℕ). pre ++ l) (text_form s from len) in
     let start : ℕ = text_at pre name_r x in (
       start,
       reply_read s m group is most
           ∙ ap (map_read p) (text_read Kind.Reply p pre name_r x parts (header_length (answer s m)) key_r (lit< tt) fits)
-          ∙ values_heard p _ (answer s m) Number.Absent Number.Absent (Run.At start (length x)) (answer_back s m group is most) refl refl refl refl refl
-          ∙ ap (λ (k : ℕ). reply (record { header = answer s m; rc = 0; off = Number.Absent; text = Run.At start k })) size,
+          ∙ values_heard p _ (answer s m) None None (Some (run_is start (length x))) (answer_back s m group is most) refl refl refl refl refl
+          ∙ ap (λ (k : ℕ). reply (record { header = answer s m; rc = 0; off = None; text = Some (run_is start k) })) size,
       ap (λ (k : ℕ). take k (drop start p)) (sym size) ∙ text_there_lem Kind.Reply p pre name_r x parts,
     )
 
@@ -332,7 +333,7 @@ unfolding reply_map rc_meant off_meant text_meant TextIs
 reply_meant s (Answered.Refused why) group is can most = (0, rc_meant_lem s (rc_of_def why) group is (rc_byte why) most, tt)
 reply_meant s Answered.Done group is can most = (0, rc_meant_lem s 0 group is (lit< tt) most, tt)
 reply_meant s (Answered.Placed n) group is can most = (0, placed_meant s n group is can most, tt)
-reply_meant s (Answered.Text from len) group is can most = text_meant_lem s from len group is can.0 most
+reply_meant s (Answered.Text text) group is can most = text_meant_lem s text.start text.len group is can.0 most
 
 -- a writer that says that it wrote a packet passed the test before it
 not_refused : (t : Bool) (out : List ℕ) (b : Outcome) (n : ℕ) → (pick t (unsendable out) b).says ≡ packet n → (t ≡ false)
@@ -367,26 +368,26 @@ module _ (sequence : ℕ) (x : List ℕ) (off size : ℕ) (tag out : List ℕ) (
       (ltb-false 4294967295 size d.0, g.0, a.1 ∙ b.1 ∙ chosen ∙ c.1 ∙ d.1 ∙ f.1 ∙ g.1)
 
 -- an upload request is read by its map
-upload_read : (sequence : ℕ) (m f : List ℕ) (r : Request) → length (request_packet 1 sequence 1 m) ≤ 65533
-    → map_from_def Kind.Upload (request_packet 1 sequence 1 m) 8 ≡ some f
-    → upload_of_def f ≡ r
-    → read_request_def (request_packet 1 sequence 1 m) ≡ Reading.Is r
+upload_read : (sequence : ℕ) (m : List ℕ) (f : Fields) (r : Request) → length (request_packet 1 sequence 1 m) ≤ 65533
+    → map_from_def Kind.Upload (request_packet 1 sequence 1 m) 8 ≡ Some f
+    → upload_of_def f ≡ Ok r
+    → read_request_def (request_packet 1 sequence 1 m) ≡ Some (Ok r)
 unfolding request_of_def mapped
 upload_read sequence m f r most walked is =
-    request_read 1 sequence 1 m (lit< tt) most Command.Upload (upload_command sequence (length m))
-    ∙ ap (λ (x : Option (List ℕ)). Reading.Is (mapped upload_of_def x)) walked
-    ∙ ap Reading.Is is
+    request_read 1 sequence 1 m (lit< tt) most (Some Command.Upload) (upload_command sequence (length m))
+    ∙ ap (λ (x : Option Fields). Some (mapped upload_of_def x)) walked
+    ∙ ap (λ (x : Result Request Reason). Some x) is
 
 -- the upload with this offset and length, its data and its tag at these places
-abbrev asked : ℕ → ℕ → ℕ → Number → Run → Upload
+abbrev asked : ℕ → ℕ → ℕ → Option ℕ → Option Run → Upload
 asked off start size length sha =
-    record { off = off; start = start; size = size; length = length; image = Number.Absent; sha = sha; upgrade = false }
+    record { off = off; «data» = run_is start size; length = length; image = None; sha = sha; upgrade = false }
 
 -- past offset 0: the offset and the data
 later_meant : (sequence : ℕ) (x : List ℕ) (off size : ℕ) (tag : List ℕ) → (off ≡ 0 → ⊥) → off ≤ 4294967295
     → length (request_packet 1 sequence 1 (later_map x off)) ≤ 65533
     → (u : Upload) × UploadIs sequence x off size tag (request_packet 1 sequence 1 (later_map x off)) u
-unfolding upload_with number_in_def run_in_def flag_in_def bytes_in is_there_def both stored index_of first_of second_of pick
+unfolding upload_with number_in_def run_in_def flag_in_def bytes_in both stored index_of as_number as_run as_flag pick
 later_meant sequence x off size tag past small most =
     let m : List ℕ = later_map x off in
     let p : List ℕ = request_packet 1 sequence 1 m in
@@ -394,9 +395,9 @@ later_meant sequence x off size tag past small most =
     let parts : p ≡ pre ++ m = request_parts 1 sequence 1 m in
     let fits : length x < 2 ^ 64 = omega (arith, request_length 1 sequence 1 m, later_length x off) in
     let less : off < 2 ^ 64 = omega arith in
-    let f : List ℕ = stored Key.Off (Unsigned off) (with_data (data_at pre 2 x) (length x)) in
+    let f : Fields = stored Key.Off (Unsigned off) (with_data (data_at pre 2 x) (length x)) in
     let none : eqb off 0 ≡ false = ne_eqb off 0 past in (
-      asked off (data_at pre 2 x) (length x) Number.Absent Run.Absent,
+      asked off (data_at pre 2 x) (length x) None None,
       record {
         header = request_headed 1 sequence 1 m (lit< tt) most;
         read = upload_read sequence m f _ most (later_read p pre x off parts (front_length 1 sequence 1 m) fits less) refl;
@@ -415,7 +416,7 @@ later_meant sequence x off size tag past small most =
 untagged_meant : (sequence : ℕ) (x : List ℕ) (size : ℕ) (tag : List ℕ) → length tag ≡ 0 → size ≤ 4294967295
     → length (request_packet 1 sequence 1 (first_map x size tag)) ≤ 65533
     → (u : Upload) × UploadIs sequence x 0 size tag (request_packet 1 sequence 1 (first_map x size tag)) u
-unfolding upload_with number_in_def run_in_def flag_in_def bytes_in is_there_def both stored index_of first_of second_of pick
+unfolding upload_with number_in_def run_in_def flag_in_def bytes_in both stored index_of as_number as_run as_flag pick
 untagged_meant sequence x size tag none small most =
     let m : List ℕ = first_map x size tag in
     let p : List ℕ = request_packet 1 sequence 1 m in
@@ -423,8 +424,8 @@ untagged_meant sequence x size tag none small most =
     let parts : p ≡ pre ++ m = request_parts 1 sequence 1 m in
     let fits : length x < 2 ^ 64 = omega (arith, request_length 1 sequence 1 m, first_length_untagged x size tag none) in
     let less : size < 2 ^ 64 = omega arith in
-    let f : List ℕ = pairs_fields (data_at pre 3 x) (length x) size in (
-      asked 0 (data_at pre 3 x) (length x) (Number.Is size) Run.Absent,
+    let f : Fields = pairs_fields (data_at pre 3 x) (length x) size in (
+      asked 0 (data_at pre 3 x) (length x) (Some size) None,
       record {
         header = request_headed 1 sequence 1 m (lit< tt) most;
         read = upload_read sequence m f _ most (untagged_read p pre x size tag none parts (front_length 1 sequence 1 m) fits less) refl;
@@ -447,7 +448,7 @@ untagged_meant sequence x size tag none small most =
 tagged_meant : (sequence : ℕ) (x : List ℕ) (size : ℕ) (tag : List ℕ) → length tag ≡ 32 → size ≤ 4294967295
     → length (request_packet 1 sequence 1 (first_map x size tag)) ≤ 65533
     → (u : Upload) × UploadIs sequence x 0 size tag (request_packet 1 sequence 1 (first_map x size tag)) u
-unfolding upload_with number_in_def run_in_def flag_in_def bytes_in is_there_def both stored index_of first_of second_of pick
+unfolding upload_with number_in_def run_in_def flag_in_def bytes_in both stored index_of as_number as_run as_flag pick
 tagged_meant sequence x size tag whole small most =
     let m : List ℕ = first_map x size tag in
     let p : List ℕ = request_packet 1 sequence 1 m in
@@ -458,8 +459,8 @@ tagged_meant sequence x size tag whole small most =
     let less : size < 2 ^ 64 = omega arith in
     let short : length tag < 2 ^ 64 = omega arith in
     let place : ℕ = tag_place pre x size tag in
-    let f : List ℕ = stored Key.Sha (Value.Bytes place (length tag)) (pairs_fields (data_at pre 4 x) (length x) size) in (
-      asked 0 (data_at pre 4 x) (length x) (Number.Is size) (Run.At place (length tag)),
+    let f : Fields = stored Key.Sha (Value.Bytes (run_is place (length tag))) (pairs_fields (data_at pre 4 x) (length x) size) in (
+      asked 0 (data_at pre 4 x) (length x) (Some size) (Some (run_is place (length tag))),
       record {
         header = request_headed 1 sequence 1 m (lit< tt) most;
         read = upload_read sequence m f _ most (tagged_read p pre x size tag some parts (front_length 1 sequence 1 m) fits less short) refl;

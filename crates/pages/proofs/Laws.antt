@@ -1,14 +1,14 @@
 -- The table by its entries: what stands at each place of it, and when it agrees.
 -- Assumes nothing.
 use mathlib.Core.Path.{◌≡◌, refl, sym, ap, ◌∙◌}
-use mathlib.Core.Bool.{Bool, true, false, false≢true}
+use mathlib.Core.Bool.{Bool, true, false}
 use mathlib.Core.List.{List, ◌++◌}
 use Prim.Native.Nat.{ℕ, ◌+◌, ◌*◌, ◌-◌, ◌/◌, ◌%◌, ◌≤◌, ◌<◌, min, max}
 use native.Mathlib.Decide.{dec_le}
 use native.Mathlib.Nat.{zero-add}
 use native.Mathlib.Omega.{arith}
-use lib.ListN.{length, drop, get_or, set, length-append, length-drop, length-take, length-set, get_or-append}
-use lib.Seq.{get_or-append-add, get_or-drop, drop_at, ext_get_or, get_or-set_same, get_or-set_other}
+use lib.ListN.{length, take, drop, get_or, length-append, length-drop, length-take, get_or-append}
+use lib.Seq.{get_or-append-add, get_or-take, get_or-drop, drop_at, ext_get_or}
 use Rattle.laws.specs.Bytes.{same}
 use Rattle.laws.specs.Table.{tab}
 use Rattle.laws.proofs.Lists.{same_true, same_refl, same_false}
@@ -120,31 +120,22 @@ counted_agrees size n t = ap (same (counted size n t)) (counted_again size n n t
 abbrev pub Found : List ℕ → ℕ → ℕ → ℕ → Bool → Type 0
 Found t from to v all = (all ≡ true → AllAre t from to v) × (all ≡ false → OneIsNot t from to v)
 
--- before the first
-pub found_none : (t : List ℕ) (from v : ℕ) (all : Bool) → all ≡ true → Found t from from v all
-found_none t from v all e = (λ _ j h l. absurd (omega arith), λ f. absurd (false≢true (sym f ∙ e)))
+-- what is found of a part of the table, from place i up to another
+pub found_part : (t : List ℕ) (i n to v : ℕ) (all : Bool) → to ≡ i + n → to ≤ length t
+    → Found (take n (drop i t)) 0 (length (take n (drop i t))) v all
+    → Found t i to v all
+found_part t i n to v all e h f = (
+  λ g j low high.
+      let at : i + (j - i) ≡ j = omega arith in
+      rw at at (sym (there (j - i) (omega arith)) ∙ f.0 g (j - i) (omega arith) (omega (arith, size))),
+  λ g. let o = f.1 g in (i + o.0, omega arith, omega (arith, o.2, size), λ q. o.3 (there o.0 (omega (arith, o.2, size)) ∙ q)),
+)
+  where
+    size : length (take n (drop i t)) ≡ n
+    size = simp (length-take, length-drop) (omega arith)
 
-module _ (t : List ℕ) (from k v : ℕ) where
-  -- one entry more, which is not v
-  pub found_other : (all : Bool) → all ≡ false → from ≤ k → (get_or t k 0 ≡ v → ⊥) → Found t from (k + 1) v all
-  found_other all e h other = (λ f. absurd (false≢true (sym e ∙ f)), λ _. (k, h, omega arith, other))
-
-  -- one entry more, which is
-  pub found_same : (all all' : Bool) → all' ≡ all → Found t from k v all → get_or t k 0 ≡ v → Found t from (k + 1) v all'
-  found_same all all' e f one = (
-    λ g j h l. elim (dec_le k j) [
-      | yes m ↦ let here : j ≡ k = omega arith in ap (λ (i : ℕ). get_or t i 0) here ∙ one
-      | no m ↦ f.0 (sym e ∙ g) j h (omega arith)
-    ],
-    λ g. let o = f.1 (sym e ∙ g) in (o.0, o.1, omega (arith, o.2), o.3),
-  )
-
-  -- all entries were looked at
-  pub found_all : (to : ℕ) (all : Bool) → k ≤ from + (to - from) → to ≤ k → Found t from k v all → Found t from to v all
-  found_all to all most least f = (
-    λ g j h l. f.0 g j h (omega arith),
-    λ g. let o = f.1 g in (o.0, o.1, omega (arith, o.1, o.2, most, least), o.3),
-  )
+    there : (k : ℕ) → k < n → get_or (take n (drop i t)) k 0 ≡ get_or t (i + k) 0
+    there k l = simp (get_or-take, get_or-drop)
 
 module _ (size n : ℕ) (t : List ℕ) where
   -- a table that is too short does not agree
@@ -214,35 +205,6 @@ pub record Followed (t : List ℕ) (after low high k : ℕ) (u : List ℕ) : Typ
   pub set_now : (j : ℕ) → low / page_size ≤ j → j < k → get_or u j 0 ≡ min page_size (after - page_size * j)
   pub below : (j : ℕ) → j < low / page_size → get_or u j 0 ≡ get_or t j 0
   pub behind : (j : ℕ) → k ≤ j → get_or u j 0 ≡ get_or t j 0
-
-module _ (t : List ℕ) (after low high : ℕ) where
-  -- no page yet
-  pub followed_none : (k : ℕ) → k ≡ low / page_size → Followed t after low high k t
-  followed_none k e = record {
-    same_size = refl;
-    begun = omega arith;
-    near = omega arith;
-    set_now = λ j h l. absurd (omega arith);
-    below = λ j h. refl;
-    behind = λ j h. refl;
-  }
-
-  -- one page more
-  pub followed_more : (k v : ℕ) (u : List ℕ) → Followed t after low high k u → k < length u → page_size * k < high → v ≡ min page_size (after - page_size * k)
-      → Followed t after low high (k + 1) (set u k v)
-  followed_more k v u f room more e = record {
-    same_size = length-set u k v ∙ f.same_size;
-    begun = omega (arith, f.begun);
-    near = omega (arith, more);
-    set_now = λ j h l. elim (dec_le k j) [
-      | yes g ↦
-          let here : j ≡ k = omega arith in
-          ap (λ (i : ℕ). get_or (set u k v) i 0) here ∙ get_or-set_same u k v 0 room ∙ e ∙ ap (λ (i : ℕ). min page_size (after - page_size * i)) (sym here)
-      | no g ↦ get_or-set_other u k j v 0 (λ e. absurd (omega arith)) ∙ f.set_now j h (omega arith)
-    ];
-    below = λ j h. get_or-set_other u k j v 0 (λ e. absurd (omega (arith, f.begun))) ∙ f.below j h;
-    behind = λ j h. get_or-set_other u k j v 0 (λ e. absurd (omega arith)) ∙ f.behind j (omega arith);
-  }
 
 -- all pages between the places: the table is counted for the new one
 pub followed_all : (t : List ℕ) (before after k : ℕ) (u : List ℕ) → Followed t after (min before after) (max before after) k u

@@ -11,11 +11,11 @@ const PAGE: usize = 4096;
 const FULL: u16 = 4096;
 
 // How many pages a slot of so many bytes has.
+#[tactic(auto, unfolding(crate::specs::Pages::pages_of_def))]
 fn pages_of(size: usize) -> usize
-    requires { size ≤ 1048576 }
     ensures { result ≡ pages_of_def size }
 {
-    (size + 4095) / PAGE
+    size.div_ceil(PAGE)
 }
 
 // How many full stretches of 4,096 bytes lie below n.
@@ -25,18 +25,14 @@ pub fn full_stretches(n: usize) -> usize
     n / PAGE
 }
 
-// Whether the entries from one place up to another are all v. Every one is looked at, so that several can be at a time.
-fn are_all(counts: &[u16], from: usize, to: usize, v: u16) -> bool
-    requires { to ≤ length counts.now }
-    ensures { (result ≡ true → AllAre counts.now from to v) × (result ≡ false → OneIsNot counts.now from to v) }
+// Whether all entries are v.
+fn are_all(counts: &[u16], v: u16) -> bool
+    ensures { (result ≡ true → AllAre counts.now 0 (length counts.now) v) × (result ≡ false → OneIsNot counts.now 0 (length counts.now) v) }
 {
     let mut all = true;
-    let mut k = from;
-    while k < to {
-        if counts[k] != v {
-            all = false;
-        }
-        k += 1;
+    // All are looked at, so that several can be at a time: `all`, which stops at the first other one, takes them one by one, and is slower.
+    for c in counts {
+        all &= *c == v;
     }
     all
 }
@@ -51,7 +47,7 @@ pub fn agree(counts: &[u16], size: usize, n: usize) -> bool
         return false;
     }
     let full = n / PAGE;
-    if !are_all(counts, 0, full, FULL) {
+    if !are_all(&counts[..full], FULL) {
         return false;
     }
     if pages <= full {
@@ -61,7 +57,7 @@ pub fn agree(counts: &[u16], size: usize, n: usize) -> bool
     if counts[full] != part {
         return false;
     }
-    are_all(counts, full + 1, pages, 0)
+    are_all(&counts[full + 1..pages], 0)
 }
 
 // How many bytes of the page number k lie below n, where the slot has n bytes.
@@ -69,15 +65,7 @@ fn count_at(n: usize, k: usize) -> u16
     requires { page_size * k < 1048576 }
     ensures { result ≡ min page_size (n - page_size * k) }
 {
-    let start = PAGE * k;
-    if n <= start {
-        return 0;
-    }
-    let rest = n - start;
-    if PAGE < rest {
-        return FULL;
-    }
-    rest as u16
+    n.saturating_sub(PAGE * k).min(PAGE) as u16
 }
 
 // Makes a table that agrees with one place agree with another: only the pages between them are written.
@@ -87,15 +75,9 @@ pub fn follow(counts: &mut [u16], before: usize, after: usize)
     ensures { (size : ℕ) → before ≤ size → after ≤ size → agrees size before counts.old ≡ true
         → counts.new ≡ counted size after counts.old }
 {
-    let mut low = before;
-    let mut high = after;
-    if after < before {
-        low = after;
-        high = before;
-    }
-    let mut k = low / PAGE;
-    while PAGE * k < high {
+    let low = before.min(after);
+    let high = before.max(after);
+    for k in low / PAGE..high.div_ceil(PAGE) {
         counts[k] = count_at(after, k);
-        k += 1;
     }
 }

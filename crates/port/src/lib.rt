@@ -1,5 +1,6 @@
 // The C interface: both ends of the port as functions on numbers, byte slices and small arrays of numbers. port_c exports them, and
-// include/belagunthi.h declares them, with each promise beside its call.
+// include/belagunthi.h declares them, with each promise beside its call. Each name is here and in port_c: a crate that exports names to C can't be
+// called from a crate, and caller's theorems and the archive need both.
 #![tactic(auto)]
 
 ghost use Rattle.std.specs.Prelude.{◌≡◌};

@@ -3,12 +3,14 @@
 use mathlib.Core.Path.{◌≡◌, refl, sym, ap, ◌∙◌}
 use mathlib.Core.Bool.{Bool, true, false}
 use mathlib.Core.Option.{Option, none, some}
-use mathlib.Core.List.{List, ◌∷◌, ◌++◌}
+use mathlib.Core.List.{List, [], ◌∷◌, ◌++◌}
+use Rattle.std.specs.List.{starts_with}
 use Prim.Native.Nat.{ℕ, ◌+◌, ◌-◌, ◌≤◌, ◌<◌}
 use native.Mathlib.Omega.{arith}
+use native.Mathlib.Decide.{ℕ_discrete}
 use lib.Dec.{eqb}
 use lib.ListN.{length, get_or, take, drop, length-take, length-drop}
-use lib.Seq.{get_or-drop, take_all, length-take-le}
+use lib.Seq.{length-take-le}
 use borrow.Author.Tests.{le-leb, lt-leb, le-ltb, lt-ltb, eq-eqb, ne_eqb}
 use Rattle.laws.specs.Choice.{pick}
 use Rattle.laws.specs.Bytes.{pasted, of_be16}
@@ -23,19 +25,14 @@ use Rattle.reader.specs.Reader.{more, body, is_bad_text, keeping, dropping, poss
 use Rattle.reader.specs.Reader.{begin, resume, framed, place_in, decoded, take_line_def}
 
 -- the CRC bytes stand in x after the body
-pub crc_in_frame : (total come first : ℕ) (x : List ℕ) (i : ℕ) → come ≤ total - 2 → get_or (crc_bytes total come first x) i 0 ≡ get_or x (total - 2 - come + i) 0
+pub crc_in_frame : (total come first : ℕ) (x : List ℕ) → come ≤ total - 2 → crc_bytes total come first x ≡ drop (total - 2 - come) x
 unfolding crc_bytes
-crc_in_frame total come first x i h = simp (le-leb come (total - 2) h, pick_yes, get_or-drop)
+crc_in_frame total come first x h = simp (le-leb come (total - 2) h, pick_yes)
 
 -- or the first is the record's
 pub crc_in_record : (total come first : ℕ) (x : List ℕ) → total - 2 < come → crc_bytes total come first x ≡ first ∷ x
 unfolding crc_bytes
 crc_in_record total come first x h = simp (lt-leb come (total - 2) h, pick_no)
-
--- all of x is body
-pub filled_whole : (total come : ℕ) (x p : List ℕ) → length x < total - 2 - come → filled total come x p ≡ pasted p come x
-unfolding filled body_of
-filled_whole total come x p h = ap (λ (l : List ℕ). pasted p come l) (take_all (total - 2 - come) x (omega arith))
 
 -- the start of x is body
 pub filled_part : (total come : ℕ) (x p : List ℕ) → filled total come x p ≡ pasted p come (take (total - 2 - come) x)
@@ -116,7 +113,7 @@ resume_idle r e raw p = rw e
 
 pub resume_impossible : (r : Reader) (total come first : ℕ) → r ≡ Open total come first → possible total come ≡ false
     → (raw p : List ℕ)
-    → keeping 5 (Open total come first) p ≡ resume r raw p
+    → keeping 5 r p ≡ resume r raw p
 unfolding resume
 resume_impossible r total come first e h raw p = rw (e, h, pick_no)
 
@@ -151,13 +148,17 @@ unfolding decoded
 decoded_good first r i t raw p e = rw e refl
 
 -- a line's marker, by its two bytes
-pub marked_both : (a b : ℕ) (line : List ℕ) → get_or line 0 0 ≡ a → eqb (get_or line 1 0) b ≡ marked a b line
+pub marked_is : (a b : ℕ) (line : List ℕ) → 2 ≤ length line → starts_with eqb line (a ∷ b ∷ []) ≡ marked a b line
 unfolding marked
-marked_both a b line h = simp (eq-eqb _ _ h, both_yes)
-
-pub marked_not : (a b : ℕ) (line : List ℕ) → (get_or line 0 0 ≡ a → ⊥) → false ≡ marked a b line
-unfolding marked
-marked_not a b line h = simp (ne_eqb _ _ h, both_no)
+marked_is a b [] h = absurd (omega (arith, h))
+marked_is a b (x ∷ []) h = absurd (omega (arith, h))
+marked_is a b (x ∷ y ∷ s) h = elim (ℕ_discrete x a) [
+  | no n ↦ rw (ne_eqb a x (λ q. n (sym q)), ne_eqb x a n, both_no) refl
+  | yes e ↦ elim (ℕ_discrete y b) [
+    | no n ↦ rw (eq-eqb a x (sym e), eq-eqb x a e, ne_eqb b y (λ q. n (sym q)), ne_eqb y b n, both_yes) refl
+    | yes f ↦ rw (eq-eqb a x (sym e), eq-eqb x a e, eq-eqb b y (sym f), eq-eqb y b f, both_yes) refl
+  ]
+]
 
 -- a line that is too long, too short, or not ended
 pub line_long : (r : Reader) (line p : List ℕ) → longest < length line → take_line_def r line p ≡ keeping 2 r p

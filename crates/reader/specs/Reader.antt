@@ -1,7 +1,8 @@
 -- The frame reader: what it answers to a line, and what becomes of its record and of the packet buffer, for every line, record and
 -- buffer. The checks stand in the order of the refusals 2 to 9.
 -- Assumes nothing.
-use Rattle.std.specs.Prelude.{ℕ, ◌+◌, ◌-◌, Bool, true, false, not, List, ◌∷◌, ltb, leb, eqb, length, get_or, take, drop}
+use Rattle.std.specs.Prelude.{ℕ, ◌+◌, ◌-◌, Bool, true, false, not, List, ◌∷◌, ltb, leb, eqb, length, get_or, take, drop, Some, None, Result, Ok, Err}
+use Rattle.std.specs.Prelude as answer
 use Rattle.std.proofs.Math.Option.{Option, none, some}
 use Rattle.laws.specs.Choice.{pick, both}
 use Rattle.laws.specs.Bytes.{pasted, of_be16}
@@ -12,8 +13,8 @@ use Rattle.fault.specs.Fault.{place_of_def}
 use Rattle.frame.specs.Line.{longest, initial, partial, begins_with, ended, text_of}
 use Rattle.reader.specs.declared.Reader.{Reader}
 use Rattle.reader.specs.declared.Reader.TheVariants.{Idle, Open}
-use Rattle.reader.specs.declared.Answer.{Answer}
-use Rattle.reader.specs.declared.Answer.TheVariants.{More, Packet, Refused, BadText}
+use Rattle.reader.specs.declared.LineError.{LineError}
+use Rattle.reader.specs.declared.LineError.TheVariants.{Refused, BadText}
 use Rattle.reader.specs.declared.Taken.{Taken}
 
 -- what the reader says, in the paper's terms: more is wanted, a body of so many bytes, the refusal of this number, or refusal 4 with its place in the
@@ -25,11 +26,11 @@ pub data Said : Type 0 where
   is_bad_text : ℕ → Said
 
 -- each answer's meaning
-abbrev pub said : Answer → Said
-said More = more
-said (Packet n) = body n
-said (Refused r) = refused (number_of r)
-said (BadText i) = is_bad_text i
+abbrev pub said : Result (answer.Option ℕ) LineError → Said
+said (Ok None) = more
+said (Ok (Some n)) = body n
+said (Err (Refused r)) = refused (number_of r)
+said (Err (BadText i)) = is_bad_text i
 
 -- all that a call leaves: what it said, the record and the packet buffer
 pub record Outcome : Type 0 where

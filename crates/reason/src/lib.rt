@@ -6,7 +6,7 @@ ghost use Rattle.std.specs.Prelude.{◌≡◌};
 ghost use Rattle.reason.specs.Rc.{rc_of_def};
 
 // What is wrong with a request.
-#[derive(Clone, Copy)]
+#[derive(Clone, Copy, Debug, PartialEq, Eq)]
 pub enum Reason {
     // Its op, group and command are no command together.
     UnknownCommand,
@@ -48,29 +48,31 @@ pub enum Reason {
     ReplyTooLong,
 }
 
-// The rc of a reason.
-pub fn rc(r: Reason) -> u8
-    ensures { result ≡ rc_of_def r }
-{
-    match r {
-        Reason::UnknownCommand => 8,
-        Reason::MalformedMap => 3,
-        Reason::NoText => 3,
-        Reason::OtherSlot => 3,
-        Reason::NoOffset => 3,
-        Reason::NoData => 3,
-        Reason::OffsetTooLarge => 3,
-        Reason::LengthTooLarge => 3,
-        Reason::EmptyData => 3,
-        Reason::BeyondLength => 3,
-        Reason::OtherImage => 3,
-        Reason::NoLength => 3,
-        Reason::ZeroLength => 3,
-        Reason::AboveSlot => 2,
-        Reason::TagSize => 3,
-        Reason::DataTooLong => 3,
-        Reason::OtherLength => 6,
-        Reason::Upgrade => 8,
-        Reason::ReplyTooLong => 7,
+impl From<Reason> for u8 {
+    // The rc of a reason.
+    ghost from_gives = { λ r n. n ≡ rc_of_def r };
+
+    fn from(r: Reason) -> u8 {
+        match r {
+            Reason::UnknownCommand => 8,
+            Reason::MalformedMap => 3,
+            Reason::NoText => 3,
+            Reason::OtherSlot => 3,
+            Reason::NoOffset => 3,
+            Reason::NoData => 3,
+            Reason::OffsetTooLarge => 3,
+            Reason::LengthTooLarge => 3,
+            Reason::EmptyData => 3,
+            Reason::BeyondLength => 3,
+            Reason::OtherImage => 3,
+            Reason::NoLength => 3,
+            Reason::ZeroLength => 3,
+            Reason::AboveSlot => 2,
+            Reason::TagSize => 3,
+            Reason::DataTooLong => 3,
+            Reason::OtherLength => 6,
+            Reason::Upgrade => 8,
+            Reason::ReplyTooLong => 7,
+        }
     }
 }

@@ -9,29 +9,10 @@ use Prim.Native.Nat.{ℕ, ◌+◌, ◌≤◌, ◌<◌}
 use native.Mathlib.Omega.{arith}
 use lib.Dec.{ltb, eqb}
 use lib.ListN.{length}
-use Rattle.recording.specs.declared.Found.{Found}
-use Rattle.recording.specs.declared.Found.TheVariants.{Whole, Cut}
-use Rattle.recording.specs.Recording.{
-  Entry,
-  record_at_def,
-  trailer_at,
-  Said,
-  is_record,
-  over,
-  refused,
-  said_of,
-  step_at_def,
-  number_in_def,
-  first_in,
-  records_of,
-  is_some,
-  first_at,
-  unreadable,
-  first_record_def,
-  Reads,
-  ends,
-  goes_on,
-}
+use Rattle.std.specs.Prelude.{Some, None}
+use Rattle.std.specs.Prelude as std
+use Rattle.recording.specs.declared.Record.{Record}
+use Rattle.recording.specs.Recording.{Entry, record_at_def, trailer_at, Said, is_record, over, refused, said_of, step_at_def, number_in_def, first_in, records_of, is_some, first_at, unreadable, first_record_def, Reads, ends, goes_on}
 use Rattle.laws.proofs.Choice.{pick_yes, pick_no}
 use Rattle.recording.proofs.Laws.{record_inside, entry_of}
 use Rattle.recording.proofs.Form.{pick_second, reads_them}
@@ -98,6 +79,13 @@ pub record Goes (file : List ℕ) (es : List Entry) (to : Bool) (start len : ℕ
   pub are : es ≡ entry_of file to start len ∷ rest
   pub reads : Reads file (start + len) rest
 
+-- two records of which the same is said start at one place and are of one length
+same_start : {a b : Bool} {c d i j : ℕ} → is_record a c i ≡ is_record b d j → c ≡ d
+same_start e = cc
+
+same_len : {a b : Bool} {c d i j : ℕ} → is_record a c i ≡ is_record b d j → i ≡ j
+same_len e = cc
+
 -- the record that the reader gives is the first of those that are left
 pub reads_next : (file : List ℕ) (at : ℕ) (es : List Entry) (to : Bool) (start len : ℕ) → Reads file at es → 0 < length es
     → is_record to start len ≡ step_at_def file at → Goes file es to start len
@@ -106,12 +94,6 @@ reads_next file at (x ∷ es) to start len (goes_on to' start' len' e r) h f = t
   where
     same-to : {a b : Bool} {c d i j : ℕ} → is_record a c i ≡ is_record b d j → a ≡ b
     same-to e = cc
-
-    same_start : {a b : Bool} {c d i j : ℕ} → is_record a c i ≡ is_record b d j → c ≡ d
-    same_start e = cc
-
-    same_len : {a b : Bool} {c d i j : ℕ} → is_record a c i ≡ is_record b d j → i ≡ j
-    same_len e = cc
 
     there : is_record to start len ≡ is_record to' start' len' → Goes file (entry_of file to' start' len' ∷ es) to start len
     there p = record {
@@ -143,13 +125,7 @@ step_inside file at to start len e =
     let here = pick_second (eqb at (trailer_at file)) over _ (is_record to start len) (λ p. let z : ◌≡◌ {A = ℕ} 0 1 = cc in omega arith) long.1 in
     by-found (record_at_def file (trailer_at file) at) refl here.1
   where
-    same_start : {a b : Bool} {c d i j : ℕ} → is_record a c i ≡ is_record b d j → c ≡ d
-    same_start e = cc
-
-    same_len : {a b : Bool} {c d i j : ℕ} → is_record a c i ≡ is_record b d j → i ≡ j
-    same_len e = cc
-
-    by-found : (f : Found) → f ≡ record_at_def file (trailer_at file) at → said_of f ≡ is_record to start len → start + len ≤ length file
-    by-found (Whole to' start' len') p q =
-        omega (arith, (record_inside file (trailer_at file) at to' start' len' p).end, same_start q, same_len q)
-    by-found Cut p q = let z : ◌≡◌ {A = ℕ} 0 1 = cc in absurd (omega arith)
+    by-found : (f : std.Option Record) → f ≡ record_at_def file (trailer_at file) at → said_of f ≡ is_record to start len → start + len ≤ length file
+    by-found (Some r) p q =
+        omega (arith, (record_inside file (trailer_at file) at r.to_controller r.line.start r.line.len p).end, same_start q, same_len q)
+    by-found None p q = let z : ◌≡◌ {A = ℕ} 0 1 = cc in absurd (omega arith)

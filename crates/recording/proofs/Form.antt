@@ -16,10 +16,12 @@ use Rattle.laws.specs.Choice.{pick}
 use Rattle.laws.specs.Bytes.{Bytes, be16}
 use Rattle.laws.specs.Parts.{part_of}
 use Rattle.laws.proofs.Choice.{pick_yes, pick_no, pick_keep}
-use Rattle.recording.specs.declared.Found.{Found}
-use Rattle.recording.specs.declared.Found.TheVariants.{Whole, Cut}
+use Rattle.std.specs.Prelude.{Some, None}
+use Rattle.std.specs.Prelude as std
+use Rattle.recording.specs.declared.Record.{Record}
 use Rattle.recording.specs.Recording.{
   Entry,
+  whole,
   to_mark,
   from_mark,
   entry_bytes,
@@ -143,13 +145,13 @@ module _ (file : List ℕ) (all : Bytes file) (long : 8 ≤ length file) where
       })
   filled (suc n) at es e = found (record_at_def file (trailer_at file) at) refl e (λ end rest p. filled n end rest p)
     where
-      found : (f : Found) → f ≡ record_at_def file (trailer_at file) at → entry_then file (λ end. entries_from file n end) f ≡ some es
+      found : (f : std.Option Record) → f ≡ record_at_def file (trailer_at file) at → entry_then file (λ end. entries_from file n end) f ≡ some es
           → ((end : ℕ) (rest : List Entry) → entries_from file n end ≡ some rest → Filled file n end rest) → Filled file (suc n) at es
-      found Cut p q deeper = let z : ◌≡◌ {A = ℕ} 0 1 = cc in absurd (omega arith)
-      found (Whole to start len) p q deeper =
-          let b = before_some (entry_of file to start len) (entries_from file n (start + len)) es q in
+      found None p q deeper = let z : ◌≡◌ {A = ℕ} 0 1 = cc in absurd (omega arith)
+      found (Some r) p q deeper =
+          let b = before_some (entry_of file r.to_controller r.line.start r.line.len) (entries_from file n (r.line.start + r.line.len)) es q in
           subst (λ (l : List Entry). Filled file (suc n) at l) b.1.1
-          (filled_next n at to start len b.0 (record_inside file (trailer_at file) at to start len p) (deeper (start + len) b.0 b.1.0))
+          (filled_next n at r.to_controller r.line.start r.line.len b.0 (record_inside file (trailer_at file) at r.to_controller r.line.start r.line.len p) (deeper (r.line.start + r.line.len) b.0 b.1.0))
 
 -- a choice that is z and whose first arm can't be z took the second
 pub pick_second : {A : Type 0} (t : Bool) (a b z : A) → (a ≡ z → ⊥) → pick t a b ≡ z → (t ≡ false) × (b ≡ z)
@@ -212,7 +214,7 @@ recorded file es all e =
 
 -- a record stands where its first byte, its length and its line do
 record_is : (file : List ℕ) (stop at : ℕ) (to : Bool) → at + 3 + be16_at file (at + 1) ≤ stop → get_or file at 0 ≡ pick to to_mark from_mark
-    → record_at_def file stop at ≡ Whole to (at + 3) (be16_at file (at + 1))
+    → record_at_def file stop at ≡ Some (whole to (at + 3) (be16_at file (at + 1)))
 unfolding record_at_def line_at pick
 record_is file stop at true h m =
     let low : stop - at < 3 → ⊥ = λ l. omega arith in
@@ -248,11 +250,11 @@ module _ (e : Entry) (file p r : List ℕ) (small : length e.line < 65536) (stop
       let low : get_or file (length p + 1 + 1) 0 ≡ length e.line % 256 = rw two (byte 2) in
       omega (arith, byte 1, low)
 
-  entry_there : record_at_def file stop (length p) ≡ Whole e.is_to_controller (length p + 3) (length e.line)
+  entry_there : record_at_def file stop (length p) ≡ Some (whole e.is_to_controller (length p + 3) (length e.line))
   entry_there =
       let mark : get_or file (length p) 0 ≡ pick e.is_to_controller to_mark from_mark =
       ap (λ (s : List ℕ). get_or s (length p) 0) is ∙ get_or-append_seam p (pick e.is_to_controller to_mark from_mark) _ 0 in
-      record_is file stop (length p) e.is_to_controller (omega (arith, size_there)) mark ∙ ap (Whole e.is_to_controller (length p + 3)) size_there
+      record_is file stop (length p) e.is_to_controller (omega (arith, size_there)) mark ∙ ap (λ (n : ℕ). Some (whole e.is_to_controller (length p + 3) n)) size_there
 
   line_there : part_of file (length p + 3) (length e.line) ≡ e.line
   line_there =
@@ -276,7 +278,7 @@ found (e ∷ es) file p t is eight (short_next small shorts) =
     let next : length p + 3 + n ≡ length (p ++ entry_bytes e) = simp (length-append, entry_length) (omega arith) in
     let shifted : file ≡ (p ++ entry_bytes e) ++ r =
     is ∙ ap (λ (s : List ℕ). p ++ s) (append_assoc (entry_bytes e) (entries_bytes es) t) ∙ sym (append_assoc p (entry_bytes e) r) in
-    ap (λ (f : Found). entry_then file (λ end. entries_from file (length es) end) f) (entry_there e file p r small (trailer_at file) room is')
+    ap (λ (f : std.Option Record). entry_then file (λ end. entries_from file (length es) end) f) (entry_there e file p r small (trailer_at file) room is')
     ∙ ap₂ (λ (x : List ℕ) (o : Option (List Entry)). before (record { is_to_controller = e.is_to_controller; line = x }) o) (line_there e file p r small (trailer_at file) room is')
     (ap (λ (k : ℕ). entries_from file (length es) k) next ∙ found es file (p ++ entry_bytes e) t shifted eight shorts)
 
@@ -338,17 +340,17 @@ reads file zero at es long e =
     subst (λ (l : List Entry). Reads file at l × (length l ≡ 0)) empty (ends (rw (le-ltb (length file) 8 long, pick_no, k.0, pick_yes)), refl)
 reads file (suc n) at es long e = found-there (record_at_def file (trailer_at file) at) refl e (λ end rest p. reads file n end rest long p)
   where
-    found-there : (f : Found) → f ≡ record_at_def file (trailer_at file) at → entry_then file (λ end. entries_from file n end) f ≡ some es
+    found-there : (f : std.Option Record) → f ≡ record_at_def file (trailer_at file) at → entry_then file (λ end. entries_from file n end) f ≡ some es
         → ((end : ℕ) (rest : List Entry) → entries_from file n end ≡ some rest → Reads file end rest × (length rest ≡ n))
         → Reads file at es × (length es ≡ suc n)
-    found-there Cut p q deeper = let z : ◌≡◌ {A = ℕ} 0 1 = cc in absurd (omega arith)
-    found-there (Whole to start len) p q deeper =
-        let b = before_some (entry_of file to start len) (entries_from file n (start + len)) es q in
-        let d = deeper (start + len) b.0 b.1.0 in
-        let l = record_inside file (trailer_at file) at to start len p in
-        let here : step_at_def file at ≡ is_record to start len =
+    found-there None p q deeper = let z : ◌≡◌ {A = ℕ} 0 1 = cc in absurd (omega arith)
+    found-there (Some r) p q deeper =
+        let b = before_some (entry_of file r.to_controller r.line.start r.line.len) (entries_from file n (r.line.start + r.line.len)) es q in
+        let d = deeper (r.line.start + r.line.len) b.0 b.1.0 in
+        let l = record_inside file (trailer_at file) at r.to_controller r.line.start r.line.len p in
+        let here : step_at_def file at ≡ is_record r.to_controller r.line.start r.line.len =
         rw (le-ltb (length file) 8 long, pick_no, ne_eqb at (trailer_at file) (λ z. omega (arith, l.head)), pick_no, ← p) in
-        subst (λ (x : List Entry). Reads file at x × (length x ≡ suc n)) b.1.1 (goes_on to start len here d.0, ap suc d.1)
+        subst (λ (x : List Entry). Reads file at x × (length x ≡ suc n)) b.1.1 (goes_on r.to_controller r.line.start r.line.len here d.0, ap suc d.1)
 
 -- so from the first record on it gives the records of the file
 pub reads_them : ReadsThem

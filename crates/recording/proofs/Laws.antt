@@ -8,14 +8,16 @@ use Prim.Native.Nat.{ℕ, suc, ◌+◌, ◌-◌, ◌≤◌, ◌<◌}
 use native.Mathlib.Omega.{arith}
 use lib.Dec.{ltb, eqb}
 use lib.ListN.{length, get_or}
-use borrow.Author.Tests.{ltb-false, eqb-true, lt-ltb, le-ltb}
+use borrow.Author.Tests.{ltb-false, eqb-true, lt-ltb, le-ltb, eq-eqb, ne_eqb}
 use Rattle.laws.specs.Choice.{pick}
 use Rattle.laws.specs.Parts.{part_of}
 use Rattle.laws.proofs.Choice.{pick_yes, pick_no, pick_case}
-use Rattle.recording.specs.declared.Found.{Found}
-use Rattle.recording.specs.declared.Found.TheVariants.{Whole, Cut}
+use Rattle.std.specs.Prelude.{Some, None}
+use Rattle.std.specs.Prelude as std
+use Rattle.recording.specs.declared.Record.{Record}
 use Rattle.recording.specs.Recording.{
   Entry,
+  whole,
   to_mark,
   from_mark,
   be16_at,
@@ -31,6 +33,11 @@ use Rattle.recording.specs.Recording.{
   records_of,
   first_at,
   unreadable,
+  is_record,
+  over,
+  refused,
+  said_of,
+  step_at_def,
   first_record_def,
 }
 
@@ -42,9 +49,9 @@ pub record LiesAt (file : List ℕ) (stop at : ℕ) (to : Bool) (start len : ℕ
   pub size : len ≡ be16_at file (at + 1)
   pub end : start + len ≤ stop
 
-abbrev Lies : List ℕ → ℕ → ℕ → Found → Type 0
-Lies file stop at (Whole to start len) = LiesAt file stop at to start len
-Lies file stop at Cut = Unit {0}
+abbrev Lies : List ℕ → ℕ → ℕ → std.Option Record → Type 0
+Lies file stop at (Some r) = LiesAt file stop at r.to_controller r.line.start r.line.len
+Lies file stop at None = Unit {0}
 
 line_lies : (file : List ℕ) (stop at : ℕ) (to : Bool) → at + 3 ≤ stop → get_or file at 0 ≡ pick to to_mark from_mark → Lies file stop at (line_at file stop at to)
 unfolding line_at
@@ -64,20 +71,20 @@ record_lies file stop at =
     pick_case (Lies file stop at) (eqb (get_or file at 0) from_mark) _ _
     (λ g. line_lies file stop at false h (eqb-true (get_or file at 0) from_mark g ∙ sym (pick_no to_mark from_mark))) (λ g. tt)))
 
-pub record_inside : (file : List ℕ) (stop at : ℕ) (to : Bool) (start len : ℕ) → Whole to start len ≡ record_at_def file stop at → LiesAt file stop at to start len
-record_inside file stop at to start len e = subst⁻¹ (λ (f : Found). Lies file stop at f) e (record_lies file stop at)
+pub record_inside : (file : List ℕ) (stop at : ℕ) (to : Bool) (start len : ℕ) → Some (whole to start len) ≡ record_at_def file stop at → LiesAt file stop at to start len
+record_inside file stop at to start len e = subst⁻¹ (λ (f : std.Option Record). Lies file stop at f) e (record_lies file stop at)
 
 -- the entry of a record whose line starts at a place of a file
 abbrev pub entry_of : List ℕ → Bool → ℕ → ℕ → Entry
 entry_of file to start len = record { is_to_controller = to; line = part_of file start len }
 
 -- no record begins there
-pub entries_cut : (file : List ℕ) (n at : ℕ) → Cut ≡ record_at_def file (trailer_at file) at → entries_from file (suc n) at ≡ none
+pub entries_cut : (file : List ℕ) (n at : ℕ) → None ≡ record_at_def file (trailer_at file) at → entries_from file (suc n) at ≡ none
 unfolding entries_from entry_then
 entries_cut file n at e = rw (← e)
 
 -- a record, and those behind it
-pub entries_next : (file : List ℕ) (n at : ℕ) (to : Bool) (start len : ℕ) → Whole to start len ≡ record_at_def file (trailer_at file) at
+pub entries_next : (file : List ℕ) (n at : ℕ) (to : Bool) (start len : ℕ) → Some (whole to start len) ≡ record_at_def file (trailer_at file) at
     → entries_from file (suc n) at ≡ before (entry_of file to start len) (entries_from file n (start + len))
 unfolding entries_from entry_then
 entries_next file n at to start len e = rw (← e)
@@ -101,6 +108,24 @@ some_end file at = picked (eqb at (trailer_at file))
     picked : (b : Bool) → b ≡ is_some (pick b (some []) none)
     picked true = refl
     picked false = refl
+
+-- what is said of a place: the file is too short for a trailer, the records are over, no record stands there, or one does
+pub step_short : (file : List ℕ) (at : ℕ) → length file < 8 → step_at_def file at ≡ refused 12
+unfolding step_at_def
+step_short file at h = simp (lt-ltb (length file) 8 h, pick_yes)
+
+pub step_over : (file : List ℕ) (at : ℕ) → 8 ≤ length file → at ≡ trailer_at file → step_at_def file at ≡ over
+unfolding step_at_def
+step_over file at h e = simp (le-ltb (length file) 8 h, pick_no, eq-eqb at (trailer_at file) e, pick_yes)
+
+module _ (file : List ℕ) (at : ℕ) (h : 8 ≤ length file) (ne : at ≡ trailer_at file → ⊥) where
+  pub step_cut : None ≡ record_at_def file (trailer_at file) at → step_at_def file at ≡ refused 12
+  unfolding step_at_def said_of
+  step_cut e = simp (le-ltb (length file) 8 h, pick_no, ne_eqb at (trailer_at file) ne, ← e)
+
+  pub step_whole : (r : Record) → Some r ≡ record_at_def file (trailer_at file) at → step_at_def file at ≡ is_record r.to_controller r.line.start r.line.len
+  unfolding step_at_def said_of
+  step_whole r e = simp (le-ltb (length file) 8 h, pick_no, ne_eqb at (trailer_at file) ne, ← e)
 
 -- what is said of a file: too short for a trailer, a distance beyond its start, or by its records
 pub first_short : (file : List ℕ) → length file < 8 → first_record_def file ≡ unreadable 12

@@ -1,14 +1,14 @@
 -- Recordings of the line: what one is, by the paper; which records a file has; and what stands at a place of a file.
 -- Assumes nothing.
-use Rattle.std.specs.Prelude.{ℕ, zero, suc, ◌+◌, ◌*◌, ◌-◌, ◌/◌, ◌^◌, ◌<◌, ◌≡◌, Bool, true, false, List, [], ◌∷◌, ◌++◌, ltb, eqb, length, get_or}
+use Rattle.std.specs.Prelude.{ℕ, zero, suc, ◌+◌, ◌*◌, ◌-◌, ◌/◌, ◌^◌, ◌<◌, ◌≡◌, Bool, true, false, List, [], ◌∷◌, ◌++◌, ltb, eqb, length, get_or, Some, None, Result, Ok, Err}
+use Rattle.std.specs.Prelude as std
 use Rattle.std.proofs.Math.Option.{Option, none, some}
 use Rattle.laws.specs.Choice.{pick}
 use Rattle.laws.specs.Bytes.{Bytes, be16}
 use Rattle.laws.specs.Parts.{part_of}
 use Rattle.refusal.specs.Number.{number_of}
-use Rattle.recording.specs.declared.Found.{Found}
-use Rattle.recording.specs.declared.Found.TheVariants.{Whole, Cut}
-use Rattle.recording.specs.declared.Step.{Step}
+use Rattle.refusal.specs.declared.Refusal.{Refusal}
+use Rattle.recording.specs.declared.Record.{Record}
 use Rattle.recording.specs.declared.First.{First}
 
 -- a record's line, and whether it goes "to the controller or .. from it"
@@ -60,16 +60,20 @@ be16_at s i = get_or s i 0 * 256 + get_or s (i + 1) 0
 abbrev pub be32_at : List ℕ → ℕ → ℕ
 be32_at s i = be16_at s i * 65536 + be16_at s (i + 2)
 
--- a record that begins at a place and ends at another or before it, by its first byte and its length
-unfoldable pub line_at : List ℕ → ℕ → ℕ → Bool → Found
-line_at file stop at to = pick (ltb (stop - (at + 3)) (be16_at file (at + 1))) Cut (Whole to (at + 3) (be16_at file (at + 1)))
+-- a record: whether its line goes to the controller, and where that starts and how long it is
+abbrev pub whole : Bool → ℕ → ℕ → Record
+whole to start len = record { to_controller = to; line = record { start = start; len = len } }
 
-unfoldable pub record_at_def : List ℕ → ℕ → ℕ → Found
+-- a record that begins at a place and ends at another or before it, by its first byte and its length
+unfoldable pub line_at : List ℕ → ℕ → ℕ → Bool → std.Option Record
+line_at file stop at to = pick (ltb (stop - (at + 3)) (be16_at file (at + 1))) None (Some (whole to (at + 3) (be16_at file (at + 1))))
+
+unfoldable pub record_at_def : List ℕ → ℕ → ℕ → std.Option Record
 record_at_def file stop at =
-    pick (ltb (stop - at) 3) Cut
+    pick (ltb (stop - at) 3) None
     (pick (eqb (get_or file at 0) to_mark) (line_at file stop at true)
     (pick (eqb (get_or file at 0) from_mark) (line_at file stop at false)
-    Cut))
+    None))
 
 -- where a file's trailer begins: its last 8 bytes
 abbrev pub trailer_at : List ℕ → ℕ
@@ -83,15 +87,15 @@ pub data Said : Type 0 where
   refused : ℕ → Said
 
 -- each answer's meaning
-abbrev pub said : Step → Said
-said (Step.Record to start len) = is_record to start len
-said Step.Over = over
-said (Step.Refused r) = refused (number_of r)
+abbrev pub said : Result (std.Option Record) Refusal → Said
+said (Ok (Some r)) = is_record r.to_controller r.line.start r.line.len
+said (Ok None) = over
+said (Err r) = refused (number_of r)
 
 -- what begins at a place before the trailer, as it is said
-unfoldable pub said_of : Found → Said
-said_of (Whole to start len) = is_record to start len
-said_of Cut = refused 12
+unfoldable pub said_of : std.Option Record → Said
+said_of (Some r) = is_record r.to_controller r.line.start r.line.len
+said_of None = refused 12
 
 -- what stands at a place of a file
 unfoldable pub step_at_def : List ℕ → ℕ → Said
@@ -106,9 +110,10 @@ before e none = none
 before e (some es) = some (e ∷ es)
 
 -- a record of a file and those behind it, which begin where it ends
-unfoldable pub entry_then : List ℕ → (ℕ → Option (List Entry)) → Found → Option (List Entry)
-entry_then file rest (Whole to start len) = before (record { is_to_controller = to; line = part_of file start len }) (rest (start + len))
-entry_then file rest Cut = none
+unfoldable pub entry_then : List ℕ → (ℕ → Option (List Entry)) → std.Option Record → Option (List Entry)
+entry_then file rest (Some r) =
+    before (record { is_to_controller = r.to_controller; line = part_of file r.line.start r.line.len }) (rest (r.line.start + r.line.len))
+entry_then file rest None = none
 
 -- n records of a file from a place on, which end where the trailer begins
 unfoldable pub entries_from : List ℕ → ℕ → ℕ → Option (List Entry)
@@ -143,9 +148,9 @@ pub data Begun : Type 0 where
   first_at : ℕ → ℕ → Begun
   unreadable : ℕ → Begun
 
-abbrev pub begun : First → Begun
-begun (First.At place number) = first_at place number
-begun (First.Refused r) = unreadable (number_of r)
+abbrev pub begun : Result First Refusal → Begun
+begun (Ok first) = first_at first.place first.number
+begun (Err r) = unreadable (number_of r)
 
 unfoldable pub first_record_def : List ℕ → Begun
 first_record_def file = pick (is_some (records_of file)) (first_at (first_in file) (number_in_def file)) (unreadable 12)

@@ -1,7 +1,6 @@
 -- The records as arrays of numbers, as they cross to C. Any number may stand in them.
 -- Assumes nothing.
-use Rattle.std.specs.Prelude.{ℕ, Bool, not, List, [], ◌∷◌, ltb, eqb, get_or}
-use Rattle.laws.specs.declared.Number.{Number}
+use Rattle.std.specs.Prelude.{ℕ, Bool, not, List, [], ◌∷◌, ltb, eqb, get_or, Option, Some, None}
 use Rattle.laws.specs.declared.Run.{Run}
 use Rattle.laws.specs.Choice.{pick}
 use Rattle.collector.specs.declared.Collector.{Collector}
@@ -63,22 +62,22 @@ unfoldable pub session_numbers : Session → List ℕ
 session_numbers s = flag_number_def s.running ∷ s.length ∷ s.place ∷ flag_number_def s.tagged ∷ []
 
 -- whether a number is there
-unfoldable pub there_of_def : Number → ℕ
-there_of_def Number.Absent = 0
-there_of_def (Number.Is n) = 1
+unfoldable pub there_of_def : Option ℕ → ℕ
+there_of_def None = 0
+there_of_def (Some n) = 1
 
 -- a text that may be absent: whether it is there, where it starts, and its length
-unfoldable pub run_there_def : Run → ℕ
-run_there_def Run.Absent = 0
-run_there_def (Run.At start len) = 1
+unfoldable pub run_there_def : Option Run → ℕ
+run_there_def None = 0
+run_there_def (Some r) = 1
 
-unfoldable pub run_start_def : Run → ℕ
-run_start_def Run.Absent = 0
-run_start_def (Run.At start len) = start
+unfoldable pub run_start_def : Option Run → ℕ
+run_start_def None = 0
+run_start_def (Some r) = r.start
 
-unfoldable pub run_length_def : Run → ℕ
-run_length_def Run.Absent = 0
-run_length_def (Run.At start len) = len
+unfoldable pub run_length_def : Option Run → ℕ
+run_length_def None = 0
+run_length_def (Some r) = r.len
 
 -- the numbers of a reply: op, flags, payload length, group, sequence, command, rc, whether off is there, off, whether a text is there, its
 -- start and its length

@@ -5,7 +5,7 @@ ghost use Rattle.std.specs.Prelude.{◌≡◌};
 ghost use Rattle.refusal.specs.Number.{number_of};
 
 // Why a call refused its input.
-#[derive(Clone, Copy)]
+#[derive(Clone, Copy, Debug, PartialEq, Eq)]
 pub enum Refusal {
     // The slot region, the session record or the collector's record is impossible.
     Impossible,
@@ -35,23 +35,25 @@ pub enum Refusal {
     NoSuchFrame,
 }
 
-// The table's number of a refusal.
-pub fn number(r: Refusal) -> u32
-    ensures { result ≡ number_of r }
-{
-    match r {
-        Refusal::Impossible => 1,
-        Refusal::LineTooLong => 2,
-        Refusal::NoFrame => 3,
-        Refusal::BadText => 4,
-        Refusal::NoPacketOpen => 5,
-        Refusal::BadTotal => 6,
-        Refusal::BodyTooLong => 7,
-        Refusal::TooManyBytes => 8,
-        Refusal::CrcDiffers => 9,
-        Refusal::WrongKind => 10,
-        Refusal::ReplyTooShort => 11,
-        Refusal::Unsendable => 12,
-        Refusal::NoSuchFrame => 13,
+impl From<Refusal> for u32 {
+    // The table's number of a refusal.
+    ghost from_gives = { λ r n. n ≡ number_of r };
+
+    fn from(r: Refusal) -> u32 {
+        match r {
+            Refusal::Impossible => 1,
+            Refusal::LineTooLong => 2,
+            Refusal::NoFrame => 3,
+            Refusal::BadText => 4,
+            Refusal::NoPacketOpen => 5,
+            Refusal::BadTotal => 6,
+            Refusal::BodyTooLong => 7,
+            Refusal::TooManyBytes => 8,
+            Refusal::CrcDiffers => 9,
+            Refusal::WrongKind => 10,
+            Refusal::ReplyTooShort => 11,
+            Refusal::Unsendable => 12,
+            Refusal::NoSuchFrame => 13,
+        }
     }
 }

@@ -1,7 +1,7 @@
 -- Laws of the replay: a record of a recording after others, and how far a replay has come.
 -- Assumes nothing.
-use mathlib.Core.Path.{◌≡◌, sym, ap, ap₂, subst, ◌∙◌}
-use mathlib.Core.Bool.{Bool, true, false}
+use mathlib.Core.Path.{◌≡◌, sym, ap, ap₂, ◌∙◌}
+use mathlib.Core.Bool.{Bool, true}
 use mathlib.Core.List.{List, [], ◌∷◌, ◌++◌}
 use mathlib.Core.Option.{none, some}
 use Prim.Native.Nat.{ℕ, suc, ◌+◌, ◌*◌, ◌-◌, ◌≤◌, ◌<◌}
@@ -12,13 +12,16 @@ use borrow.Author.Tests.{lt-ltb, le-ltb}
 use Rattle.laws.specs.Bytes.{pasted}
 use Rattle.laws.specs.Parts.{part_of}
 use Rattle.laws.proofs.Choice.{pick_yes, pick_no}
-use Rattle.laws.proofs.Lists.{pasted_none, pasted_twice}
-use Rattle.recording.specs.Recording.{Entry, Said, is_record, step_at_def, records_of, Reads}
-use Rattle.recording.proofs.Along.{IsRecord, reads_record, reads_next, reads_once}
-use Rattle.feed.specs.declared.Answer.{Answer}
-use Rattle.feed.specs.Feed.{Bench, Fed, feed_line_def}
+use Rattle.laws.proofs.Lists.{pasted_none, pasted_twice, pasted_length}
+use Rattle.recording.specs.Recording.{Entry, is_record, step_at_def, records_of, Reads}
+use Rattle.recording.specs.declared.First.{First}
+use Rattle.recording.proofs.Along.{reads_next, reads_once}
+use Rattle.feed.specs.declared.Rig.{Rig}
+use Rattle.feed.specs.Feed.{Answer, Bench, Fed, feed_line_def}
+use Rattle.feed.specs.Rig.{bench_in, SameRig}
+use Rattle.replay.specs.declared.Answers.{Answers}
+use Rattle.replay.specs.Inner.{Ahead, Room, Pushed, Grown, leads_to, came_to}
 use Rattle.replay.specs.Replay.{Run, saying, fed, numbers, all_numbers, Replayed, fresh, ending, kept, replayed_by, replayed}
-use Rattle.replay.specs.Inner.{Ahead, Ends}
 
 -- the bench with these in its places
 abbrev pub bench_of : List ℕ → List ℕ → List ℕ → List ℕ → List ℕ → List ℕ → Bench
@@ -35,12 +38,6 @@ ending_next k answers a run h =
     ap (λ (at : ℕ). pasted (pasted answers (4 * k) (numbers a)) at (all_numbers run.says)) there
     ∙ pasted_twice answers (4 * k) (numbers a) (all_numbers run.says) h in
     ap₂ (λ (n : ℕ) (l : List ℕ). record { result = 0; bench = run.bench; answers = l; count = n }) one all
-
--- a line from the controller changes nothing
-pub record_passed : (k : ℕ) (answers : List ℕ) (b : Bench) (to : Bool) (line : List ℕ) (rest : List Entry) → to ≡ false
-    → ending k answers (fed rest b) ≡ ending k answers (fed (record { is_to_controller = to; line = line } ∷ rest) b)
-unfolding fed
-record_passed k answers b to line rest e = rw (e, pick_no)
 
 -- a line to the controller is fed, and its answer stored
 pub record_fed : (k : ℕ) (answers : List ℕ) (b : Bench) (to : Bool) (line : List ℕ) (rest : List Entry) (f : Fed) → to ≡ true
@@ -78,50 +75,91 @@ pub replayed_all : (b : Bench) (answers : List ℕ) (count : ℕ) (file : List �
 unfolding replayed_by
 replayed_all b answers count file es e h = rw (e, le-ltb (length answers) (4 * length es) h, pick_no)
 
--- how far a replay has come: these records are left from a place on, there is room for their answers, and what comes of them has the property P
-pub record Left (P : Replayed → Type 0) (file : List ℕ) (k at left : ℕ) (answers : List ℕ) (b : Bench) : Type 0 where
+-- an answer that is pushed leaves the array as long as it was
+pub pushed_grown : (a b : Answers) (x : Answer) → Room a 1 → Pushed a b x → Grown a b 1
+pushed_grown a b x h p = record {
+  same_numbers = p.same_numbers;
+  as_long = ap length p.numbers_after ∙ pasted_length a.numbers.now (4 * a.count) (numbers x) (omega (arith, h));
+  at_most = omega (arith, p.one_more);
+}
+
+-- answers that grew twice
+pub grown_again : (a b d : Answers) (n : ℕ) → Grown a b n → Grown b d 1 → Grown a d (n + 1)
+grown_again a b d n g h = record {
+  same_numbers = h.same_numbers ∙ g.same_numbers;
+  as_long = h.as_long ∙ g.as_long;
+  at_most = omega (arith, g.at_most, h.at_most);
+}
+
+-- a rig that is lent the same twice
+pub same_again : (r s t : Rig) → SameRig r s → SameRig s t → SameRig r t
+same_again r s t a b = record {
+  same_memory = b.same_memory ∙ a.same_memory;
+  same_session = b.same_session ∙ a.same_session;
+  same_tag = b.same_tag ∙ a.same_tag;
+  same_reader = b.same_reader ∙ a.same_reader;
+  same_packet = b.same_packet ∙ a.same_packet;
+  same_reply = b.same_reply ∙ a.same_reply;
+}
+
+-- a line to the controller is fed, and its answer pushed
+pub fed_leads : (r s : Rig) (a b : Answers) (to : Bool) (line : List ℕ) (x : Answer) → to ≡ true → Room a 1
+    → ◌≡◌ {A = Fed} (record { says = x; bench = bench_in s }) (feed_line_def (bench_in r) line)
+    → Pushed a b x
+    → (rest : List Entry) → leads_to s b rest ≡ leads_to r a (record { is_to_controller = to; line = line } ∷ rest)
+fed_leads r s a b to line x e h f p rest =
+    ap₂ (λ (n : ℕ) (l : List ℕ). ending n l (fed rest (bench_in s))) p.one_more p.numbers_after
+    ∙ record_fed a.count a.numbers.now (bench_in r) to line rest _ e (omega (arith, h)) f
+
+-- how far a replay of a file has come: these records are left from a place on, there is room for their answers, and they lead to the end that all lead to
+pub record Left (file : List ℕ) (first : First) (r : Rig) (a : Answers) (at left : ℕ) (s : Rig) (b : Answers) : Type 0 where
   pub entries : List Entry
   pub reads : Reads file at entries
   pub many : length entries ≡ left
-  pub room : 4 * (k + left) ≤ length answers
-  pub leads : P (ending k answers (fed entries b))
+  pub room : Room b left
+  pub leads : (es : List Entry) → Reads file first.place es → length es ≡ first.number → leads_to s b entries ≡ leads_to r a es
 
 -- all are left at the first record
-pub left_all : (file : List ℕ) (place number : ℕ) (answers : List ℕ) (b : Bench) → Ahead file place number → 4 * number ≤ length answers
-    → Left (Ends file place number answers b) file 0 place number answers b
-left_all file place number answers b f h = record {
+pub left_all : (file : List ℕ) (first : First) (r : Rig) (a : Answers) → Ahead file first.place first.number → Room a first.number
+    → Left file first r a first.place (first.number - 0) r a
+left_all file first r a f h = record {
   entries = f.entries;
   reads = f.reads;
-  many = f.many;
+  many = omega (arith, f.many);
   room = omega (arith, h);
-  leads = λ es r m. ap (λ (x : List Entry). ending 0 answers (fed x b)) (reads_once file place f.entries es f.reads r);
+  leads = λ es e m. ap (leads_to r a) (reads_once file first.place f.entries es f.reads e);
 }
 
-module _ (P : Replayed → Type 0) (file : List ℕ) (k at left : ℕ) (answers : List ℕ) (b : Bench) (s : Left P file k at left answers b) where
-  -- while records are left the reader gives one
-  pub left_record : (x : Said) → 0 < left → x ≡ step_at_def file at → IsRecord x
-  left_record x h e = reads_record file at s.entries x s.reads (omega (arith, h, s.many)) e
-
+module _ (file : List ℕ) (first : First) (r : Rig) (a : Answers) (at left : ℕ) (s : Rig) (b : Answers) (l : Left file first r a at left s b) where
   -- one record further
-  pub left_next : (to : Bool) (start len : ℕ) (line : List ℕ) (k' : ℕ) (answers' : List ℕ) (b' : Bench) → 0 < left → is_record to start len ≡ step_at_def file at
-      → line ≡ part_of file start len
-      → ((rest : List Entry) → ending k' answers' (fed rest b') ≡ ending k answers (fed (record { is_to_controller = to; line = line } ∷ rest) b))
-      → k' ≤ k + 1
-      → length answers' ≡ length answers
-      → Left P file k' (start + len) (left - 1) answers' b'
-  left_next to start len line k' answers' b' h e p step most same =
-      let g = reads_next file at s.entries to start len s.reads (omega (arith, h, s.many)) e in
-      let first : ◌≡◌ {A = List Entry} (record { is_to_controller = to; line = line } ∷ g.rest) s.entries =
-      ap (λ (x : List ℕ). record { is_to_controller = to; line = x } ∷ g.rest) p ∙ sym g.are in
+  pub left_next : (to : Bool) (from len less : ℕ) (t : Rig) (d : Answers) → 0 < left → is_record to from len ≡ step_at_def file at
+      → ((rest : List Entry) → leads_to t d rest ≡ leads_to s b (record { is_to_controller = to; line = part_of file from len } ∷ rest))
+      → Grown b d 1
+      → less ≡ left - 1
+      → Left file first r a (from + len) less t d
+  left_next to from len less t d h e step g n =
+      let go = reads_next file at l.entries to from len l.reads (omega (arith, h, l.many)) e in
       record {
-        entries = g.rest;
-        reads = g.reads;
-        many = omega (arith, s.many, ap (λ (x : List Entry). length x) g.are, h);
-        room = omega (arith, s.room, most, same, h);
-        leads = subst P (sym (step g.rest ∙ ap (λ (x : List Entry). ending k answers (fed x b)) first)) s.leads;
+        entries = go.rest;
+        reads = go.reads;
+        many = omega (arith, l.many, ap (λ (x : List Entry). length x) go.are, h, n);
+        room = omega (arith, l.room, g.at_most, g.as_long, n, h);
+        leads = λ es f m. step go.rest ∙ ap (leads_to s b) (sym go.are) ∙ l.leads es f m;
       }
 
   -- none is left: this is where the replay ends
-  pub left_none : left ≡ 0
-      → P (record { result = 0; bench = b; answers = answers; count = k })
-  left_none h = subst P (sym (ending_over s.entries k answers b (s.many ∙ h))) s.leads
+  pub left_none : left ≡ 0 → (es : List Entry) → Reads file first.place es → length es ≡ first.number → came_to s b ≡ leads_to r a es
+  left_none h es e m = ending_over l.entries b.count b.numbers.now (bench_in s) (l.many ∙ h) ∙ l.leads es e m
+
+-- what a replay comes to, whichever way the numbers and bytes come back
+pub came_back : (r : Rig) (a : Answers) {x : Replayed} {session tag reader answers : List ℕ} → session ≡ r.session.now → tag ≡ r.tag.now
+    → reader ≡ r.reader.now
+    → answers ≡ a.numbers.now
+    → came_to r a ≡ x
+    → record {
+      result = 0;
+      bench = bench_of r.memory.now session tag reader r.packet.now r.reply.now;
+      answers = answers;
+      count = a.count;
+    } ≡ x
+came_back r a s t q l e = rw (s, t, q, l) e

@@ -5,8 +5,7 @@ use Rattle.std.proofs.Math.Option.{Option, none, some}
 use Rattle.laws.specs.Choice.{pick}
 use Rattle.laws.specs.Bytes.{pasted}
 use Rattle.recording.specs.Recording.{Entry, records_of}
-use Rattle.feed.specs.declared.Answer.{Answer}
-use Rattle.feed.specs.Feed.{Bench, feed_line_def}
+use Rattle.feed.specs.Feed.{Answer, Bench, feed_line_def}
 
 -- what lines leave: what was said of each, and the bench
 pub record Run : Type 0 where

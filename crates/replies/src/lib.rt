@@ -2,107 +2,68 @@
 #![tactic(auto)]
 
 ghost use Rattle.std.specs.Prelude.{◌≡◌};
-ghost use Rattle.rules.specs.Plan.{above, largest};
-ghost use Rattle.replies.specs.Read.{said, or_zero, reply_with_def, values_of, is_reply_def, read_reply_def};
+ghost use Rattle.replies.specs.Read.{said, reply_with_def, values_of, is_reply_def, read_reply_def};
 
-use fields::{Key, Kind};
-use laws::{Number, Run};
+use fields::{Fields, Key, Kind};
+use laws::Run;
 use refusal::Refusal;
 use smp::Header;
 
+// The largest number of four bytes.
+const LARGEST: u64 = 4294967295;
+
 // A reply: its header fields, its return code, and its offset and text where they are there.
-#[derive(Clone, Copy)]
+#[derive(Clone, Copy, Debug, PartialEq, Eq)]
 pub struct Reply {
     pub header: Header,
     pub rc: u64,
-    pub off: Number,
-    pub text: Run,
+    pub off: Option<u64>,
+    pub text: Option<Run>,
 }
 
-// A packet, read as a reply.
-#[derive(Clone, Copy)]
-pub enum Heard {
-    Reply(Reply),
-    Refused(Refusal),
-}
-
-// Whether a number that is there is above the largest of four bytes.
-fn is_large(number: Number) -> bool
-    ensures { result ≡ above largest number }
-{
-    let Number::Is(n) = number else {
-        return false;
-    };
-    4294967295 < n
-}
-
-// A number that may be absent, or 0.
-fn or_zero(number: Number) -> u64
-    ensures { result ≡ or_zero number }
-{
-    let Number::Is(n) = number else {
-        return 0;
-    };
-    n
-}
-
-// Whether a packet is of a reply's kind.
+// Whether a packet is of a reply's kind. Its twin requests::is_request differs in both ops: one function of them would be no plainer.
+#[tactic(auto, unfolding(crate::specs::Read::is_reply_def, laws::specs::Choice::both))]
 fn is_reply(s: &[u8]) -> bool
     ensures { result ≡ is_reply_def s.now }
 {
-    let sized = smp::is_sized(s);
-    if !sized {
-        return false;
-    }
-    let op = laws::byte_at(s, 0);
-    if op == 1 {
-        return true;
-    }
-    op == 3
+    smp::is_sized(s) && matches!(laws::byte_at(s, 0), 1 | 3)
 }
 
 // The values of a reply with this return code, offset and text.
-fn reply_with(s: &[u8], rc: Number, off: Number, text: Run) -> Reply
+#[tactic(auto, unfolding(crate::specs::Read::or_zero))]
+fn reply_with(s: &[u8], rc: Option<u64>, off: Option<u64>, text: Option<Run>) -> Reply
     ensures { result ≡ reply_with_def s.now rc off text }
 {
-    let header = smp::header_in(s);
-    let code = or_zero(rc);
     Reply {
-        header,
-        rc: code,
+        header: smp::header_in(s),
+        rc: rc.unwrap_or(0),
         off,
         text,
     }
 }
 
 // A reply's values, from its map's fields.
-fn values_of(s: &[u8], f: &[u64; 30]) -> Heard
+#[tactic(auto, unfolding(crate::specs::Read::values_of, laws::specs::Choice::pick))]
+fn values_of(s: &[u8], f: &Fields) -> Result<Reply, Refusal>
     ensures { said result ≡ values_of s.now f.now }
 {
-    let rc = fields::number_in(f, Key::Rc);
-    if is_large(rc) {
-        return Heard::Refused(Refusal::WrongKind);
+    let rc = f.number(Key::Rc);
+    let off = f.number(Key::Off);
+    if rules::is_above(LARGEST, rc) || rules::is_above(LARGEST, off) {
+        return Err(Refusal::WrongKind);
     }
-    let off = fields::number_in(f, Key::Off);
-    if is_large(off) {
-        return Heard::Refused(Refusal::WrongKind);
-    }
-    let text = fields::run_in(f, Key::Text);
-    Heard::Reply(reply_with(s, rc, off, text))
+    Ok(reply_with(s, rc, off, f.run(Key::Text)))
 }
 
 // A packet read as a reply: the text stays in the packet.
-pub fn read_reply(s: &[u8]) -> Heard
+#[tactic(auto, unfolding(crate::specs::Read::read_reply_def, crate::specs::Read::map_read, laws::specs::Choice::pick))]
+pub fn read_reply(s: &[u8]) -> Result<Reply, Refusal>
     ensures { said result ≡ read_reply_def s.now }
 {
-    let reply = is_reply(s);
-    if !reply {
-        return Heard::Refused(Refusal::WrongKind);
+    if !is_reply(s) {
+        return Err(Refusal::WrongKind);
     }
-    let mut f = [0u64; 30];
-    let whole = map::map_from(Kind::Reply, s, 8, &mut f);
-    if !whole {
-        return Heard::Refused(Refusal::WrongKind);
-    }
+    let mut f = Fields::new();
+    map::map_from(Kind::Reply, s, 8, &mut f).ok_or(Refusal::WrongKind)?;
     values_of(s, &f)
 }

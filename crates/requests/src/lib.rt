@@ -1,32 +1,31 @@
 // Requests: a packet read as one, its map's fields as values.
 #![tactic(auto)]
 
-ghost use Rattle.std.specs.Prelude.{◌≡◌};
-ghost use Rattle.requests.specs.Request.{image_read_def, command_of_def, upload_of_def, request_of_def, is_request_def, read_request_def};
+ghost use Rattle.std.specs.Prelude.{◌≡◌, None, Ok, Some, OnOk, IfErr};
+ghost use Rattle.fields.specs.Fields.{nothing};
+ghost use Rattle.map.specs.Walk.{map_from_def};
+ghost use Rattle.requests.specs.Request.{mapped, command_of_def, upload_of_def, request_of_def, is_request_def, read_request_def};
 
-use fields::{Key, Kind};
-use laws::{Number, Run};
+use fields::{Fields, Key, Kind};
+use laws::Run;
 use reason::Reason;
 use rules::Upload;
 use smp::Header;
 
 // What a request's op, group and command ask for together.
-#[derive(Clone, Copy)]
+#[derive(Clone, Copy, Debug, PartialEq, Eq)]
 pub enum Command {
     Echo,
     Reset,
     Images,
     Upload,
     Erase,
-    Unknown,
 }
 
-// A request as a value; strings are named by their places in the packet.
-#[derive(Clone, Copy)]
+// A request as a value; strings are the runs of their bytes in the packet.
+#[derive(Clone, Copy, Debug, PartialEq, Eq)]
 pub enum Request {
-    // To be answered with the rc of this reason, and nothing done.
-    Answer(Reason),
-    Echo { start: usize, len: usize },
+    Echo(Run),
     Reset,
     // The list of the images in both slots.
     Images,
@@ -34,193 +33,125 @@ pub enum Request {
     Erase,
 }
 
-// A packet, read as a request.
-#[derive(Clone, Copy)]
-pub enum Reading {
-    Is(Request),
-    NotARequest,
-}
-
-// What a header of the image group asks for, whose op is not 2.
-fn image_read(h: Header) -> Command
-    ensures { result ≡ image_read_def h }
-{
-    if h.command != 0 {
-        return Command::Unknown;
-    }
-    if h.op != 0 {
-        return Command::Unknown;
-    }
-    Command::Images
-}
-
-// What a header's op, group and command ask for together.
-fn command_of(h: Header) -> Command
+// What a header's op, group and command ask for together; none where they ask for nothing.
+#[tactic(auto, unfolding(crate::specs::Request::command_of_def, crate::specs::Request::image_read_def, laws::specs::Choice::pick, laws::specs::Choice::both))]
+fn command_of(h: Header) -> Option<Command>
     ensures { result ≡ command_of_def h }
 {
-    if h.group == 0 {
-        if h.command == 0 {
-            return Command::Echo;
-        }
-        if h.command != 5 {
-            return Command::Unknown;
-        }
-        if h.op != 2 {
-            return Command::Unknown;
-        }
-        return Command::Reset;
+    match (h.group, h.op, h.command) {
+        (0, _, 0) => Some(Command::Echo),
+        (0, 2, 5) => Some(Command::Reset),
+        (1, 0, 0) => Some(Command::Images),
+        (1, 2, 1) => Some(Command::Upload),
+        (1, 2, 5) => Some(Command::Erase),
+        _ => None,
     }
-    if h.group != 1 {
-        return Command::Unknown;
-    }
-    if h.op != 2 {
-        return image_read(h);
-    }
-    if h.command == 1 {
-        return Command::Upload;
-    }
-    if h.command == 5 {
-        return Command::Erase;
-    }
-    Command::Unknown
+}
+
+// A packet's map is read into fields of which nothing has been read.
+fn read_fields(kind: Kind, s: &[u8], f: &mut Fields) -> Result<(), Reason>
+    requires { f.old ≡ nothing }
+    ensures ok { OnOk result (map_from_def kind s.now 8 ≡ Some f.new) }
+    ensures malformed { IfErr result (λ why. (why ≡ Reason.MalformedMap) × (map_from_def kind s.now 8 ≡ None)) }
+{
+    map::map_from(kind, s, 8, f).ok_or(Reason::MalformedMap)
 }
 
 // The echo request in a packet.
-fn echo_in(s: &[u8]) -> Request
-    ensures { result ≡ request_of_def Command.Echo s.now }
+#[tactic(auto, unfolding(crate::specs::Request::request_of_def, crate::specs::Request::mapped, crate::specs::Request::echo_with))]
+fn echo_in(s: &[u8]) -> Result<Request, Reason>
+    ensures { result ≡ request_of_def (Some Command.Echo) s.now }
 {
-    let mut f = [0u64; 30];
-    let whole = map::map_from(Kind::Echo, s, 8, &mut f);
-    if !whole {
-        return Request::Answer(Reason::MalformedMap);
-    }
-    let text = fields::run_in(&f, Key::Text);
-    let Run::At { start, len } = text else {
-        return Request::Answer(Reason::NoText);
-    };
-    Request::Echo { start, len }
+    let mut f = Fields::new();
+    read_fields(Kind::Echo, s, &mut f)?;
+    let text = f.run(Key::Text).ok_or(Reason::NoText)?;
+    Ok(Request::Echo(text))
 }
 
-// The reset request in a packet.
-fn reset_in(s: &[u8]) -> Request
-    ensures { result ≡ request_of_def Command.Reset s.now }
+// A request in a packet whose map may be any.
+#[tactic(auto, unfolding(crate::specs::Request::mapped))]
+fn bare_in(request: Request, s: &[u8]) -> Result<Request, Reason>
+    ensures { result ≡ mapped (λ f. Ok request) (map_from_def Kind.Bare s.now 8) }
 {
-    let mut f = [0u64; 30];
-    let whole = map::map_from(Kind::Bare, s, 8, &mut f);
-    if !whole {
-        return Request::Answer(Reason::MalformedMap);
-    }
-    Request::Reset
-}
-
-// The request for the images in a packet.
-fn images_in(s: &[u8]) -> Request
-    ensures { result ≡ request_of_def Command.Images s.now }
-{
-    let mut f = [0u64; 30];
-    let whole = map::map_from(Kind::Bare, s, 8, &mut f);
-    if !whole {
-        return Request::Answer(Reason::MalformedMap);
-    }
-    Request::Images
+    read_fields(Kind::Bare, s, &mut Fields::new())?;
+    Ok(request)
 }
 
 // The erase request in a packet.
-fn erase_in(s: &[u8]) -> Request
-    ensures { result ≡ request_of_def Command.Erase s.now }
+#[tactic(auto, unfolding(crate::specs::Request::request_of_def, crate::specs::Request::mapped, crate::specs::Request::erase_with, laws::specs::Choice::pick))]
+fn erase_in(s: &[u8]) -> Result<Request, Reason>
+    ensures { result ≡ request_of_def (Some Command.Erase) s.now }
 {
-    let mut f = [0u64; 30];
-    let whole = map::map_from(Kind::Erase, s, 8, &mut f);
-    if !whole {
-        return Request::Answer(Reason::MalformedMap);
+    let mut f = Fields::new();
+    read_fields(Kind::Erase, s, &mut f)?;
+    match f.number(Key::Slot) {
+        None | Some(1) => Ok(Request::Erase),
+        Some(_) => Err(Reason::OtherSlot),
     }
-    let slot = fields::number_in(&f, Key::Slot);
-    let Number::Is(n) = slot else {
-        return Request::Erase;
-    };
-    if n == 1 {
-        return Request::Erase;
-    }
-    Request::Answer(Reason::OtherSlot)
 }
 
 // The upload request of a map's fields: "off" and "data" have to be there.
-fn upload_of(f: &[u64; 30]) -> Request
+#[tactic(auto, unfolding(crate::specs::Request::upload_with))]
+fn upload_of(f: &Fields) -> Result<Request, Reason>
     ensures { result ≡ upload_of_def f.now }
 {
-    let offset = fields::number_in(f, Key::Off);
-    let Number::Is(off) = offset else {
-        return Request::Answer(Reason::NoOffset);
+    let Some(off) = f.number(Key::Off) else {
+        return Err(Reason::NoOffset);
     };
-    let chunk = fields::run_in(f, Key::Data);
-    let Run::At { start, len } = chunk else {
-        return Request::Answer(Reason::NoData);
+    let Some(data) = f.run(Key::Data) else {
+        return Err(Reason::NoData);
     };
-    let length = fields::number_in(f, Key::Len);
-    let image = fields::number_in(f, Key::Image);
-    let sha = fields::run_in(f, Key::Sha);
-    let upgrade = fields::flag_in(f, Key::Upgrade);
-    Request::Upload(Upload {
+    Ok(Request::Upload(Upload {
         off,
-        start,
-        size: len,
-        length,
-        image,
-        sha,
-        upgrade,
-    })
+        data,
+        length: f.number(Key::Len),
+        image: f.number(Key::Image),
+        sha: f.run(Key::Sha),
+        upgrade: f.flag(Key::Upgrade),
+    }))
 }
 
 // The upload request in a packet.
-fn upload_in(s: &[u8]) -> Request
-    ensures { result ≡ request_of_def Command.Upload s.now }
+#[tactic(auto, unfolding(crate::specs::Request::request_of_def, crate::specs::Request::mapped))]
+fn upload_in(s: &[u8]) -> Result<Request, Reason>
+    ensures { result ≡ request_of_def (Some Command.Upload) s.now }
 {
-    let mut f = [0u64; 30];
-    let whole = map::map_from(Kind::Upload, s, 8, &mut f);
-    if !whole {
-        return Request::Answer(Reason::MalformedMap);
-    }
+    let mut f = Fields::new();
+    read_fields(Kind::Upload, s, &mut f)?;
     upload_of(&f)
 }
 
-// What a packet of this command asks for.
-fn request_of(command: Command, s: &[u8]) -> Request
+// What a packet of this command asks for, or the reason of the rc that answers it.
+#[tactic(auto, unfolding(crate::specs::Request::request_of_def))]
+fn request_of(command: Option<Command>, s: &[u8]) -> Result<Request, Reason>
     ensures { result ≡ request_of_def command s.now }
 {
-    match command {
+    match command.ok_or(Reason::UnknownCommand)? {
         Command::Echo => echo_in(s),
-        Command::Reset => reset_in(s),
-        Command::Images => images_in(s),
+        Command::Reset => bare_in(Request::Reset, s),
+        Command::Images => bare_in(Request::Images, s),
         Command::Upload => upload_in(s),
         Command::Erase => erase_in(s),
-        Command::Unknown => Request::Answer(Reason::UnknownCommand),
     }
 }
 
-// Whether a packet is a request.
+// Whether a packet is a request. Its twin replies::is_reply differs in both ops: one function of them would be no plainer than the two lines.
+#[tactic(auto, unfolding(crate::specs::Request::is_request_def, laws::specs::Choice::both))]
 fn is_request(s: &[u8]) -> bool
     ensures { result ≡ is_request_def s.now }
 {
-    let sized = smp::is_sized(s);
-    if !sized {
-        return false;
-    }
-    let op = laws::byte_at(s, 0);
-    if op == 0 {
-        return true;
-    }
-    op == 2
+    smp::is_sized(s) && matches!(laws::byte_at(s, 0), 0 | 2)
 }
 
-// A packet read as a request: strings stay in the packet.
-pub fn read_request(s: &[u8]) -> Reading
+// A packet read as a request: strings stay in the packet. None where it is no request; a request that is refused by its map, its keys or its command
+// is the reason of the rc that answers it.
+#[tactic(auto, unfolding(crate::specs::Request::read_request_def, laws::specs::Choice::pick))]
+pub fn read_request(s: &[u8]) -> Option<Result<Request, Reason>>
     ensures { result ≡ read_request_def s.now }
 {
-    let request = is_request(s);
-    if !request {
-        return Reading::NotARequest;
+    if !is_request(s) {
+        return None;
     }
     let header = smp::header_in(s);
-    let command = command_of(header);
-    Reading::Is(request_of(command, s))
+    Some(request_of(command_of(header), s))
 }

@@ -5,8 +5,8 @@ use mathlib.Core.Bool.{Bool, true, false, not}
 use mathlib.Core.List.{List}
 use Prim.Native.Nat.{ℕ, ◌≤◌, ◌<◌}
 use native.Mathlib.Omega.{arith}
-use lib.Dec.{ltb, leb, eqb}
-use lib.ListN.{length, take, drop, length-append}
+use lib.Dec.{ltb, leb}
+use lib.ListN.{length, take, drop}
 use lib.Seq.{take_at}
 use borrow.Author.Tests.{leb-true, ltb-true, not-false}
 use Rattle.laws.specs.Bytes.{pasted}
@@ -15,11 +15,12 @@ use Rattle.laws.proofs.Lists.{pasted_start, pasted_length}
 use Rattle.refusal.specs.declared.Refusal.{Refusal}
 use Rattle.refusal.specs.Number.{number_of}
 use Rattle.sender.specs.declared.Sent.{Sent}
-use Rattle.sender.specs.declared.Sent.TheVariants.{Frame, Refused}
-use Rattle.frame.specs.Line.{longest, initial, partial, frame}
-use Rattle.sender.specs.Sender.{frame_count_def, marker_of, piece_of, frame_of, is_frame, refused, told, Outcome, outcome, sendable, send_frame_def}
-use Rattle.sender.proofs.Laws.{piece_length, text_room, send_frame_lem, send_unsendable}
+use Rattle.std.specs.Prelude.{Result, Ok, Err}
+use Rattle.frame.specs.Line.{longest}
+use Rattle.sender.specs.Sender.{frame_count_def, piece_of, frame_of, is_frame, refused, told, Outcome, outcome, sendable, send_frame_def}
+use Rattle.sender.proofs.Laws.{piece_length, line_room, send_frame_lem, send_unsendable}
 use Rattle.roundtrip.specs.RoundTrip.{FrameStands}
+use Rattle.roundtrip.specs.Inner.{Stayed}
 
 -- a refusal is no frame
 no_frame : (r n count : ℕ) → refused r ≡ is_frame n count → ⊥
@@ -60,13 +61,8 @@ frame_stands s k out n count e =
 
 -- a frame is no longer than a line may be
 pub frame_fits : (s : List ℕ) (k : ℕ) → k < frame_count_def (length s) → length (frame_of s k) ≤ longest
-unfolding frame_of frame
-frame_fits s k h =
-    let text = text_room (piece_of s k) (piece_length s k h) in
-    rw (length-append, length-append) (omega (arith, text, marker-size k))
-  where
-    marker-size : (k : ℕ) → length (marker_of k) ≡ 2
-    marker-size k = pick_case (λ (m : List ℕ). length m ≡ 2) (eqb k 0) initial partial (λ e. refl) (λ e. refl)
+unfolding frame_of
+frame_fits s k h = line_room k (piece_of s k) (piece_length s k h)
 
 -- where a body can be sent, the output has room for a line
 pub sendable_room : (b room : ℕ) → sendable b room ≡ true → longest ≤ room
@@ -83,10 +79,12 @@ pub record Written (s : List ℕ) (k : ℕ) (out : List ℕ) (n count : ℕ) (li
   pub frame_is : take n line ≡ frame_of s k
 
 -- a call gave a frame
-pub was_written : (s : List ℕ) (k : ℕ) (out : List ℕ) (t : Sent) (line : List ℕ) (n count : ℕ) → outcome t line ≡ send_frame_def s k out
-    → t ≡ Frame n count
-    → Written s k out n count line
-was_written s k out t line n count e f =
+pub was_written : (s : List ℕ) (k : ℕ) (out : List ℕ) (t : Result Sent Refusal) (line : List ℕ) (sent : Sent) → outcome t line ≡ send_frame_def s k out
+    → t ≡ Ok sent
+    → Written s k out sent.length sent.count line
+was_written s k out t line sent e f =
+    let n = sent.length in
+    let count = sent.count in
     let says : (send_frame_def s k out).says ≡ is_frame n count = sym (ap (λ (o : Outcome). o.says) e) ∙ ap told f in
     let only = sent_only s k out n count says in
     let stands = frame_stands s k out n count says in
@@ -104,15 +102,27 @@ was_written s k out t line n count e f =
       frame_is = ap (λ (o : Outcome). take n o.buffer) e ∙ stands.0;
     }
 
--- a call that was refused was of a body that can't be sent, or of a number that is not below the count
-pub not_written : (s : List ℕ) (k : ℕ) (out : List ℕ) (t : Sent) (line : List ℕ) (why : Refusal) → outcome t line ≡ send_frame_def s k out → t ≡ Refused why
+-- a refusal has one number
+refused_number : (m n : ℕ) → refused m ≡ refused n → m ≡ n
+refused_number m n e = cc
+
+-- a call that was refused, of a number below the count, was of a body that can't be sent
+pub not_written : (s : List ℕ) (k : ℕ) (out p : List ℕ) (t : Result Sent Refusal) (line : List ℕ) (why : Refusal) → outcome t line ≡ send_frame_def s k out
+    → t ≡ Err why
     → k < frame_count_def (length s)
-    → (sendable (length s) (length out) ≡ false) × (line ≡ out)
-not_written s k out t line why e f h = by-test (sendable (length s) (length out)) refl
+    → Stayed s p out why p line
+not_written s k out p t line why e f h = by-test (sendable (length s) (length out)) refl
   where
-    by-test : (b : Bool) → sendable (length s) (length out) ≡ b → (sendable (length s) (length out) ≡ false) × (line ≡ out)
+    by-test : (b : Bool) → sendable (length s) (length out) ≡ b → Stayed s p out why p line
     by-test true can =
         absurd
         (no_frame (number_of why) (length (frame_of s k)) (frame_count_def (length s))
         (ap told (sym f) ∙ ap (λ (o : Outcome). o.says) (e ∙ send_frame_lem s k out can h)))
-    by-test false can = (can, ap (λ (o : Outcome). o.buffer) (e ∙ send_unsendable s k out can))
+    by-test false can =
+        let is = e ∙ send_unsendable s k out can in
+        record {
+          cannot = can;
+          number = refused_number (number_of why) 12 (ap told (sym f) ∙ ap (λ (o : Outcome). o.says) is);
+          packet = refl;
+          line = ap (λ (o : Outcome). o.buffer) is;
+        }

@@ -1,23 +1,26 @@
 -- A frame's raw bytes in three parts, its line in three parts, and the sender's definition at each way of its tests.
 -- Assumes nothing.
 use mathlib.Core.Path.{◌≡◌, refl, sym, ap, ap₂, ◌∙◌}
-use mathlib.Core.List.{List, [], ◌∷◌, ◌++◌, append-nil, append_assoc}
+use mathlib.Core.List.{List, [], ◌∷◌, ◌++◌, append-nil}
 use Prim.Native.Nat.{ℕ, zero, suc, ◌+◌, ◌-◌, ◌≤◌, ◌<◌}
-use native.Mathlib.Nat.{zero-add, suc-ne-zero}
+use native.Mathlib.Nat.{add-zero, suc-ne-zero}
 use native.Mathlib.Decide.{ℕ_discrete}
 use native.Mathlib.Omega.{arith}
 use mathlib.Core.Bool.{true, false}
 use lib.Dec.{eqb}
-use lib.ListN.{length, take, drop, set, length-append, length-take, length-drop}
+use lib.ListN.{length, take, drop, length-append, length-take, length-drop}
 use lib.Seq.{take_all, drop-append-le, take-append-le}
 use borrow.Author.Tests.{eq-eqb, ne_eqb, le-leb, lt-leb, le-ltb, lt-ltb}
 use Rattle.laws.specs.Bytes.{pasted, be16}
 use Rattle.laws.proofs.Choice.{pick_yes, pick_no, pick_case, both_yes, both_no, both_last_no}
-use Rattle.laws.proofs.Lists.{take_past, drop_past, pasted_twice, pasted_length, set_pasted}
+use Rattle.laws.proofs.Lists.{pasted_none, take_past, drop_past}
+use Rattle.writer.specs.declared.Writer.{Writer}
+use Rattle.writer.specs.Writer.{HasRoom, Wrote}
+use Rattle.writer.proofs.Steps.{room_first, room_second, wrote_twice}
 use Rattle.crc.specs.Crc.{crc_of_def}
 use Rattle.strict_base64.specs.Base64.{encode}
 use Rattle.strict_base64.proofs.Laws.{encode_length}
-use Rattle.frame.specs.Line.{longest, longest_text, newline, raw_most, initial, partial, frame}
+use Rattle.frame.specs.Line.{longest, newline, raw_most, initial, partial, frame}
 use Rattle.sender.specs.Sender.{frame_count_def, raw_of, start_of, stop_of, piece_of, marker_of, frame_of, sendable, is_frame, refused, send_frame_def}
 use Rattle.sender.proofs.Count.{stop_last, stop_other, start_is, start_first, piece_size}
 use Rattle.sender.specs.Inner.{head_of, from_of, to_of, middle_of, tail_of}
@@ -122,7 +125,7 @@ later_sizes b k t h =
     (drop_past (be16 (b + 2)) t (start_of b k) (rw (be16_length (b + 2)) low) ∙ ap (λ (n : ℕ). drop (start_of b k - n) t) (be16_length (b + 2)))
 
 -- a frame's raw bytes in three parts
-piece_parts : (s : List ℕ) (k : ℕ) → piece_of s k ≡ head_of (length s) k ++ (middle_of s k ++ tail_of s k)
+pub piece_parts : (s : List ℕ) (k : ℕ) → piece_of s k ≡ head_of (length s) k ++ (middle_of s k ++ tail_of s k)
 unfolding piece_of raw_of
 piece_parts s zero =
     let b = length s in
@@ -144,31 +147,27 @@ pub piece_length : (s : List ℕ) (k : ℕ) → k < frame_count_def (length s) �
 unfolding piece_of
 piece_length s k l = simp length-take (omega (arith, (piece_size (length s) k l).1))
 
--- the parts one after the other are the frame's raw bytes
-pub parts_length : (s : List ℕ) (k : ℕ) → length (head_of (length s) k) + length (middle_of s k) + length (tail_of s k) ≡ length (piece_of s k)
-parts_length s k = rw (piece_parts s k, length-append, length-append) (omega arith)
+-- the parts together are as long as the raw bytes
+pub parts_length : (s : List ℕ) (k : ℕ) → length (head_of (length s) k ++ (middle_of s k ++ tail_of s k)) ≡ length (piece_of s k)
+parts_length s k = ap length (sym (piece_parts s k))
 
--- three writes one after the other write the frame's raw bytes
-pub parts_pasted : (s : List ℕ) (k : ℕ) (m m₁ m₂ m₃ : List ℕ) (at after : ℕ) → length (piece_of s k) ≤ length m
-    → at ≡ length (head_of (length s) k)
-    → m₁ ≡ pasted m 0 (head_of (length s) k)
-    → after ≡ at + length (middle_of s k)
-    → m₂ ≡ pasted m₁ at (middle_of s k)
-    → m₃ ≡ pasted m₂ after (tail_of s k)
-    → m₃ ≡ pasted m 0 (piece_of s k)
-parts_pasted s k m m₁ m₂ m₃ at after room e₁ p₁ e₂ p₂ p₃ =
-    let h = head_of (length s) k in
-    let x = middle_of s k in
-    let t = tail_of s k in
-    let sizes : length h + length x + length t ≡ length (piece_of s k) = parts_length s k in
-    let two : m₂ ≡ pasted m 0 (h ++ x) =
-    p₂ ∙ ap₂ (λ (l : List ℕ) (n : ℕ). pasted l n x) p₁ (e₁ ∙ sym (zero-add (length h))) ∙ pasted_twice m 0 h x (omega arith)
-    in
-    let both : after ≡ 0 + length (h ++ x) = rw length-append (omega arith) in
-    p₃
-    ∙ ap₂ (λ (l : List ℕ) (n : ℕ). pasted l n t) two both
-    ∙ pasted_twice m 0 (h ++ x) t (rw length-append (omega arith))
-    ∙ ap (λ (l : List ℕ). pasted m 0 l) (append_assoc h x t ∙ sym (piece_parts s k))
+-- a writer that writes nothing
+pub wrote_none : (a : Writer) → Wrote a a []
+wrote_none a = record { same_buffer = refl; place = sym (add-zero a.at); written = sym (pasted_none a.buf.now a.at) }
+
+-- three pieces one after the other: room for the second and the third, and the three joined
+pub second_room : {a b : Writer} (x y z : List ℕ) → Wrote a b x → HasRoom a (x ++ (y ++ z)) → HasRoom b y
+second_room {a} {b} x y z u r = room_first b y z (room_second a b x (y ++ z) r u)
+
+pub third_room : {a b c : Writer} (x y z : List ℕ) → Wrote a b x → Wrote b c y → HasRoom a (x ++ (y ++ z)) → HasRoom c z
+third_room {a} {b} {c} x y z u v r = room_second b c y z (room_second a b x (y ++ z) r u) v
+
+pub wrote_three : {a b c d : Writer} (x y z : List ℕ) → Wrote a b x → Wrote b c y → Wrote c d z → HasRoom a (x ++ (y ++ z)) → Wrote a d (x ++ (y ++ z))
+wrote_three {a} {b} {c} {d} x y z u v w r = wrote_twice a b d x (y ++ z) r u (wrote_twice b c d y z (room_second a b x (y ++ z) r u) v w)
+
+-- what a writer wrote from the start of a buffer, which then ends as the writer left it
+pub written_back : {a b : Writer} {x e : List ℕ} → Wrote a b x → a.at ≡ 0 → e ≡ b.buf.now → (b.at ≡ length x) × (e ≡ pasted a.buf.now 0 x)
+written_back w z same = (omega (arith, w.place), same ∙ rw z at w.written)
 
 -- a frame's marker, by its number
 pub marker_first : (k : ℕ) → k ≡ 0 → marker_of k ≡ initial
@@ -180,30 +179,12 @@ marker_later k h = simp (ne_eqb _ _ h, pick_no)
 marker_length : (k : ℕ) → length (marker_of k) ≡ 2
 marker_length k = pick_case (λ (m : List ℕ). length m ≡ 2) (eqb k 0) initial partial (λ e. refl) (λ e. refl)
 
--- marker, text and 0A one after the other are the frame's line
-pub line_parts : (k : ℕ) (raw m m₁ m₂ : List ℕ) (n : ℕ) → length (encode raw) + 3 ≤ length m → m₁ ≡ pasted m 0 (marker_of k)
-    → n ≡ length (encode raw)
-    → m₂ ≡ pasted m₁ 2 (encode raw)
-    → (2 + n + 1 ≡ length (frame (marker_of k) raw)) × (set m₂ (2 + n) newline ≡ pasted m 0 (frame (marker_of k) raw)) × (length m₂ ≡ length m)
+-- a frame's line is at most the longest
+pub line_room : (k : ℕ) (raw : List ℕ) → length raw ≤ raw_most → length (frame (marker_of k) raw) ≤ longest
 unfolding frame
-line_parts k raw m m₁ m₂ n room p₁ e p₂ =
-    let a = marker_of k in
+line_room k raw h =
     let t = encode raw in
-    let two : length a ≡ 2 = marker_length k in
-    let ahead : length (a ++ t) ≡ 2 + n = rw (length-append a t) (omega arith) in
-    let both : m₂ ≡ pasted m 0 (a ++ t) = p₂ ∙ ap₂ (λ (l : List ℕ) (i : ℕ). pasted l i t) p₁ (omega arith) ∙ pasted_twice m 0 a t (omega arith) in
-    let size : length m₂ ≡ length m = ap length both ∙ pasted_length m 0 (a ++ t) (omega arith) in (
-      rw (length-append a (t ++ (newline ∷ [])), length-append t (newline ∷ [])) (omega arith),
-      set_pasted m₂ (2 + n) newline (omega arith)
-          ∙ ap₂ (λ (l : List ℕ) (i : ℕ). pasted l i (newline ∷ [])) both (omega arith)
-          ∙ pasted_twice m 0 (a ++ t) (newline ∷ []) (omega arith)
-          ∙ ap (λ (l : List ℕ). pasted m 0 l) (append_assoc a t (newline ∷ [])),
-      size,
-    )
-
--- the text of a full frame is the longest
-pub text_room : (raw : List ℕ) → length raw ≤ raw_most → length (encode raw) ≤ longest_text
-text_room raw h = omega (arith, encode_length raw)
+    rw (length-append (marker_of k) (t ++ (newline ∷ [])), length-append t (newline ∷ [])) (omega (arith, marker_length k, encode_length raw))
 
 -- the sender's refusals, and a frame that it sends
 pub send_unsendable : (s : List ℕ) (k : ℕ) (out : List ℕ) → sendable (length s) (length out) ≡ false

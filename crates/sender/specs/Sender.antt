@@ -1,13 +1,13 @@
 -- The frame sender: which lines a body becomes, what it answers to a body and a frame number, and what becomes of the lent buffer.
 -- Assumes nothing.
-use Rattle.std.specs.Prelude.{ℕ, zero, suc, ◌+◌, ◌*◌, ◌-◌, ◌/◌, ◌≤◌, min, Bool, not, List, [], ◌∷◌, ◌++◌, ltb, leb, eqb, length, take, drop}
+use Rattle.std.specs.Prelude.{ℕ, zero, suc, ◌+◌, ◌*◌, ◌-◌, ◌/◌, ◌≤◌, min, Bool, not, List, [], ◌∷◌, ◌++◌, ltb, leb, eqb, length, take, drop, Result, Ok, Err}
 use Rattle.laws.specs.Choice.{pick, both}
 use Rattle.laws.specs.Bytes.{pasted, be16}
 use Rattle.refusal.specs.Number.{number_of}
 use Rattle.crc.specs.Crc.{crc_of_def}
 use Rattle.frame.specs.Line.{longest, raw_most, initial, partial, frame}
+use Rattle.refusal.specs.declared.Refusal.{Refusal}
 use Rattle.sender.specs.declared.Sent.{Sent}
-use Rattle.sender.specs.declared.Sent.TheVariants.{Frame, Refused}
 
 -- a body of this many bytes or more takes more than one frame
 abbrev pub several_from : ℕ
@@ -78,9 +78,9 @@ pub data Told : Type 0 where
   refused : ℕ → Told
 
 -- each answer's meaning
-abbrev pub told : Sent → Told
-told (Frame length count) = is_frame length count
-told (Refused r) = refused (number_of r)
+abbrev pub told : Result Sent Refusal → Told
+told (Ok s) = is_frame s.length s.count
+told (Err r) = refused (number_of r)
 
 -- all that a call leaves: what it said, and the lent buffer
 pub record Outcome : Type 0 where
@@ -88,7 +88,7 @@ pub record Outcome : Type 0 where
   pub buffer : List ℕ
 
 -- the outcome of a call that gave s and left out in its buffer
-abbrev pub outcome : Sent → List ℕ → Outcome
+abbrev pub outcome : Result Sent Refusal → List ℕ → Outcome
 outcome s out = record { says = told s; buffer = out }
 
 -- "The sender refuses 12 for an output under 127 bytes or a body outside 8 to 65,533."

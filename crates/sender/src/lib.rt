@@ -2,21 +2,21 @@
 #![tactic(auto)]
 
 ghost use Rattle.std.specs.Prelude.{◌≡◌, ◌+◌, ◌-◌, ◌≤◌, ◌<◌, length};
-ghost use Rattle.laws.specs.Bytes.{pasted};
+ghost use Rattle.laws.specs.Bytes.{pasted, be16};
+ghost use Rattle.writer.specs.Writer.{HasRoom, Wrote};
 ghost use Rattle.strict_base64.specs.Base64.{encode};
-ghost use Rattle.frame.specs.Line.{longest, longest_text, raw_most, frame};
+ghost use Rattle.frame.specs.Line.{longest, raw_most, frame};
 ghost use Rattle.sender.specs.Sender.{frame_count_def, start_of, piece_of, marker_of, frame_of, outcome, send_frame_def};
 ghost use Rattle.sender.specs.Inner.{head_of, to_of, from_of, middle_of, tail_of};
 
 use refusal::Refusal;
+use writer::Writer;
 
-// What the sender says to a body and a frame number.
-#[derive(Clone, Copy)]
-pub enum Sent {
-    // The frame stands at the buffer's start: its length, and how many frames the body takes.
-    Frame { length: usize, count: usize },
-    // Nothing was written.
-    Refused(Refusal),
+// A frame that stands at the buffer's start: its length, and how many frames the body takes.
+#[derive(Clone, Copy, Debug, PartialEq, Eq)]
+pub struct Sent {
+    pub length: usize,
+    pub count: usize,
 }
 
 // A body of this many bytes or more takes more than one frame.
@@ -36,7 +36,7 @@ fn frame_count(b: usize) -> usize
     if b <= TWO_FRAMES {
         return 2;
     }
-    2 + (b - TWO_FRAMES + (frame::RAW_MOST - 1)) / frame::RAW_MOST
+    2 + (b - TWO_FRAMES).div_ceil(frame::RAW_MOST)
 }
 
 // Where frame k's raw bytes begin among those of a body of b bytes.
@@ -44,106 +44,37 @@ fn start_of(b: usize, k: usize) -> usize
     requires { (b ≤ 65533) × (k ≤ 705) }
     ensures { result ≡ start_of b k }
 {
-    let at = frame::RAW_MOST * k;
-    if at < b + 2 {
-        return at;
-    }
-    b + 2
+    (frame::RAW_MOST * k).min(b + 2)
 }
 
-// Where frame k's run of the body begins.
-fn body_start(b: usize, k: usize) -> usize
-    requires { (b ≤ 65533) × (k ≤ 705) }
-    ensures { result ≡ from_of b k }
+// Writes a number in two bytes, the high one first.
+fn put_be16(out: &mut Writer, n: usize)
+    requires { HasRoom out.old (be16 n) }
+    ensures { Wrote out.old out.new (be16 n) }
 {
-    let start = start_of(b, k);
-    if start < 2 {
-        return 0;
-    }
-    start - 2
+    laws::put_be16(out.buf, out.at, n);
+    out.at += 2;
 }
 
-// Where frame k's run of the body ends, where the body takes `count` frames.
-fn body_end(b: usize, k: usize, count: usize) -> usize
-    requires { (b ≤ 65533) × (k < 705) × (count ≡ frame_count_def b) }
-    ensures { (result ≡ to_of b k) × (result ≤ b) × (from_of b k ≤ result) }
-{
-    if k + 1 == count {
-        return b;
-    }
-    let next = start_of(b, k + 1);
-    next - 2
-}
-
-// Total, in frame 0, goes to the start of the raw bytes; gives how many bytes that is.
-fn put_head(b: usize, k: usize, raw: &mut [u8]) -> usize
-    requires { (b ≤ 65533) × (2 ≤ length raw.old) }
-    ensures { (result ≡ length (head_of b k)) × (raw.new ≡ pasted raw.old 0 (head_of b k)) }
+// Writes a frame's marker: initial for frame 0, else partial.
+fn put_marker(out: &mut Writer, k: usize)
+    requires { HasRoom out.old (marker_of k) }
+    ensures { Wrote out.old out.new (marker_of k) }
 {
     if k == 0 {
-        laws::put_be16(raw, 0, b + 2);
-        return 2;
+        out.bytes(&frame::INITIAL);
+    } else {
+        out.bytes(&frame::PARTIAL);
     }
-    0
 }
 
-// Frame k's run of the body goes to the raw bytes from place at on; gives the place after it.
-fn put_middle(body: &[u8], k: usize, count: usize, raw: &mut [u8], at: usize) -> usize
-    requires { (length body.now ≤ 65533) × (k < 705) × (count ≡ frame_count_def (length body.now))
-        × (at + length (middle_of body.now k) ≤ length raw.old) }
-    ensures { (result ≡ at + length (middle_of body.now k)) × (raw.new ≡ pasted raw.old at (middle_of body.now k)) }
+// Writes the text of some raw bytes.
+fn put_text(out: &mut Writer, raw: &[u8])
+    requires { HasRoom out.old (encode raw.now) }
+    ensures { Wrote out.old out.new (encode raw.now) }
 {
-    let b = body.len();
-    let from = body_start(b, k);
-    let to = body_end(b, k, count);
-    laws::put(raw, at, &body[from..to]);
-    at + (to - from)
-}
-
-// The CRC, in the last frame, goes to the raw bytes from place at on; gives the place after it.
-fn put_tail(body: &[u8], k: usize, count: usize, raw: &mut [u8], at: usize) -> usize
-    requires { (k < 705) × (count ≡ frame_count_def (length body.now)) × (at + length (tail_of body.now k) ≤ length raw.old) }
-    ensures { (result ≡ at + length (tail_of body.now k)) × (raw.new ≡ pasted raw.old at (tail_of body.now k)) }
-{
-    if k + 1 == count {
-        let crc = crc::continued(0, body);
-        laws::put_be16(raw, at, crc as usize);
-        return at + 2;
-    }
-    at
-}
-
-// Frame k's raw bytes go to the start of raw; gives how many there are.
-fn put_piece(body: &[u8], k: usize, count: usize, raw: &mut [u8]) -> usize
-    requires { (8 ≤ length body.now) × (length body.now ≤ 65533) × (count ≡ frame_count_def (length body.now))
-        × (k < count) × (count ≤ 705) × (length raw.old ≡ raw_most) }
-    ensures { (result ≡ length (piece_of body.now k)) × (raw.new ≡ pasted raw.old 0 (piece_of body.now k))
-        × (result ≤ raw_most) }
-{
-    let at = put_head(body.len(), k, raw);
-    let after = put_middle(body, k, count, raw, at);
-    put_tail(body, k, count, raw, after)
-}
-
-// A frame's marker goes to the first two bytes of out: initial for frame 0, else partial.
-fn put_marker(k: usize, out: &mut [u8])
-    requires { 2 ≤ length out.old }
-    ensures { out.new ≡ pasted out.old 0 (marker_of k) }
-{
-    if k == 0 {
-        laws::put(out, 0, &frame::INITIAL);
-        return;
-    }
-    laws::put(out, 0, &frame::PARTIAL);
-}
-
-// The text of some raw bytes goes to out from its third byte on; gives how many characters it has.
-fn put_text(raw: &[u8], out: &mut [u8]) -> usize
-    requires { (length raw.now ≤ raw_most) × (longest ≤ length out.old) }
-    ensures { (result ≡ length (encode raw.now)) × (out.new ≡ pasted out.old 2 (encode raw.now))
-        × (result ≤ longest_text) }
-{
-    encoder::encode(raw, &mut out[2..])
+    let n = encoder::encode(raw, &mut out.buf[out.at..]);
+    out.at += n;
 }
 
 // Frame k's line with these raw bytes goes to the start of out; gives its length.
@@ -152,42 +83,114 @@ fn put_line(k: usize, raw: &[u8], out: &mut [u8]) -> usize
     ensures { (result ≡ length (frame (marker_of k) raw.now))
         × (out.new ≡ pasted out.old 0 (frame (marker_of k) raw.now)) }
 {
-    put_marker(k, out);
-    let n = put_text(raw, out);
-    let end = 2 + n;
-    out[end] = frame::NEWLINE;
-    end + 1
+    let mut line = Writer { buf: out, at: 0 };
+    put_marker(&mut line, k);
+    put_text(&mut line, raw);
+    line.byte(frame::NEWLINE);
+    line.at
 }
 
-// The line of frame k of a body that takes `count` frames goes to the start of out; gives its length.
-fn write_frame(body: &[u8], k: usize, count: usize, out: &mut [u8]) -> usize
-    requires { (8 ≤ length body.now) × (length body.now ≤ 65533) × (count ≡ frame_count_def (length body.now))
-        × (k < count) × (count ≤ 705) × (longest ≤ length out.old) }
-    ensures { (result ≡ length (frame_of body.now k)) × (out.new ≡ pasted out.old 0 (frame_of body.now k)) }
-{
-    let mut raw = [0u8; frame::RAW_MOST];
-    let n = put_piece(body, k, count, &mut raw);
-    put_line(k, &raw[..n], out)
+// One of the frames of a body that can be sent: its number, and how many frames the body takes.
+#[derive(Clone, Copy)]
+struct Frame<'a> {
+    body: &'a [u8],
+    k: usize,
+    count: usize,
+    ghost long_enough: { 8 ≤ length body.now },
+    ghost short_enough: { length body.now ≤ 65533 },
+    ghost counted: { count ≡ frame_count_def (length body.now) },
+    ghost few: { count ≤ 705 },
+    ghost one_of_them: { k < count },
+}
+
+impl<'a> Frame<'a> {
+    // Where the frame's run of the body begins.
+    fn body_start(self) -> usize
+        ensures { result ≡ from_of (length self.entry.body.now) self.entry.k }
+    {
+        start_of(self.body.len(), self.k).saturating_sub(2)
+    }
+
+    // Where the frame's run of the body ends.
+    fn body_end(self) -> usize
+        ensures { (result ≡ to_of (length self.entry.body.now) self.entry.k) × (result ≤ length self.entry.body.now)
+            × (from_of (length self.entry.body.now) self.entry.k ≤ result) }
+    {
+        if self.k + 1 == self.count {
+            return self.body.len();
+        }
+        let next = start_of(self.body.len(), self.k + 1);
+        next - 2
+    }
+
+    // Writes total, in frame 0.
+    fn put_head(self, raw: &mut Writer)
+        requires { HasRoom raw.old (head_of (length self.body.now) self.k) }
+        ensures { Wrote raw.old raw.new (head_of (length self.entry.body.now) self.entry.k) }
+    {
+        if self.k == 0 {
+            put_be16(raw, self.body.len() + 2);
+        }
+    }
+
+    // Writes the frame's run of the body.
+    fn put_middle(self, raw: &mut Writer)
+        requires { HasRoom raw.old (middle_of self.body.now self.k) }
+        ensures { Wrote raw.old raw.new (middle_of self.entry.body.now self.entry.k) }
+    {
+        let from = self.body_start();
+        let to = self.body_end();
+        raw.bytes(&self.body[from..to]);
+    }
+
+    // Writes the CRC, in the last frame.
+    fn put_tail(self, raw: &mut Writer)
+        requires { HasRoom raw.old (tail_of self.body.now self.k) }
+        ensures { Wrote raw.old raw.new (tail_of self.entry.body.now self.entry.k) }
+    {
+        if self.k + 1 == self.count {
+            let crc = crc::continued(0, self.body);
+            put_be16(raw, usize::from(crc));
+        }
+    }
+
+    // The frame's raw bytes go to the start of raw; gives how many there are.
+    fn put_piece(self, raw: &mut [u8]) -> usize
+        requires { length raw.old ≡ raw_most }
+        ensures { (result ≡ length (piece_of self.entry.body.now self.entry.k))
+            × (raw.new ≡ pasted raw.old 0 (piece_of self.entry.body.now self.entry.k)) × (result ≤ raw_most) }
+    {
+        let mut piece = Writer { buf: raw, at: 0 };
+        self.put_head(&mut piece);
+        self.put_middle(&mut piece);
+        self.put_tail(&mut piece);
+        piece.at
+    }
+
+    // The frame's line goes to the start of out; gives its length.
+    fn write(self, out: &mut [u8]) -> usize
+        requires { longest ≤ length out.old }
+        ensures { (result ≡ length (frame_of self.entry.body.now self.entry.k))
+            × (out.new ≡ pasted out.old 0 (frame_of self.entry.body.now self.entry.k)) }
+    {
+        let mut raw = [0u8; frame::RAW_MOST];
+        let n = self.put_piece(&mut raw);
+        put_line(self.k, &raw[..n], out)
+    }
 }
 
 // Writes frame number k of a body, as a line, to the start of out: its length and the frame count, or a refusal that writes nothing.
-pub fn send_frame(body: &[u8], k: usize, out: &mut [u8]) -> Sent
+pub fn send_frame(body: &[u8], k: usize, out: &mut [u8]) -> Result<Sent, Refusal>
     ensures { outcome result out.new ≡ send_frame_def body.now k out.old }
 {
-    let b = body.len();
-    if out.len() < frame::LONGEST {
-        return Sent::Refused(Refusal::Unsendable);
+    if out.len() < frame::LONGEST || body.len() < 8 || 65533 < body.len() {
+        return Err(Refusal::Unsendable);
     }
-    if b < 8 {
-        return Sent::Refused(Refusal::Unsendable);
-    }
-    if 65533 < b {
-        return Sent::Refused(Refusal::Unsendable);
-    }
-    let count = frame_count(b);
+    let count = frame_count(body.len());
     if count <= k {
-        return Sent::Refused(Refusal::NoSuchFrame);
+        return Err(Refusal::NoSuchFrame);
     }
-    let length = write_frame(body, k, count, out);
-    Sent::Frame { length, count }
+    let frame = Frame { body, k, count };
+    let length = frame.write(out);
+    Ok(Sent { length, count })
 }

@@ -1,39 +1,15 @@
 -- The definitions of region and session by their tests, in the terms that the code leaves.
 -- Assumes nothing.
-use mathlib.Core.Path.{◌≡◌, refl, sym}
-use mathlib.Core.Bool.{Bool, true, false}
-use Prim.Native.Nat.{ℕ, ◌+◌, ◌-◌, ◌≤◌, ◌<◌, min, max}
+use mathlib.Core.Path.{◌≡◌}
+use mathlib.Core.Bool.{true, false}
+use Prim.Native.Nat.{ℕ, ◌+◌, ◌≤◌, ◌<◌, min, max}
 use native.Mathlib.Omega.{arith}
-use lib.Dec.{leb}
-use borrow.Author.Tests.{le-leb, lt-leb, leb-true, leb-false, ltb-true, ltb-false, not-true}
-use Rattle.laws.proofs.Choice.{pick_yes, pick_no, pick_same, both_yes, both_no, both_last_no, both_true}
+use borrow.Author.Tests.{le-leb, leb-true, ltb-true, ltb-false, not-true}
+use Rattle.laws.proofs.Choice.{pick_yes, pick_no, pick_same, both_yes, both_true}
 use Rattle.session.specs.declared.Slot.{Slot}
 use Rattle.session.specs.declared.Layout.{Layout}
 use Rattle.session.specs.declared.Session.{Session}
-use Rattle.session.specs.Session.{lies_in_def, region_ok, overlapping, layout_ok, OverlapIs, session_ok}
-
--- a slot of no bytes is not possible
-pub region_small : (slot : Slot) (m : ℕ) → slot.size < 1 → region_ok slot m ≡ false
-unfolding region_ok
-region_small slot m h = simp (lt-leb _ _ h, both_no)
-
--- nor is one above the largest
-pub region_large : (slot : Slot) (m : ℕ) → 1048576 < slot.size → region_ok slot m ≡ false
-unfolding region_ok
-region_large slot m h = simp (lt-leb _ _ h, both_no, both_last_no)
-
--- one of a possible size is possible just where it lies in the memory
-pub region_rest : (slot : Slot) (m : ℕ) → 1 ≤ slot.size → slot.size ≤ 1048576 → lies_in_def slot m ≡ region_ok slot m
-unfolding region_ok
-region_rest slot m h k = simp (le-leb _ _ h, le-leb _ _ k, both_yes)
-
--- a region that is no longer than the memory lies in it just where it starts early enough
-pub lies_last : (slot : Slot) (m : ℕ) → slot.size ≤ m → leb slot.start (m - slot.size) ≡ lies_in_def slot m
-lies_last slot m l = decided (leb slot.start (m - slot.size)) refl
-  where
-    decided : (b : Bool) → leb slot.start (m - slot.size) ≡ b → b ≡ lies_in_def slot m
-    decided true e = sym (le-leb (slot.start + slot.size) m (omega (arith, leb-true slot.start (m - slot.size) e)))
-    decided false e = sym (lt-leb (slot.start + slot.size) m (omega (arith, leb-false slot.start (m - slot.size) e)))
+use Rattle.session.specs.Session.{region_ok, overlapping, layout_ok, OverlapIs, session_ok}
 
 -- the bounds of a slot
 pub record Region (slot : Slot) (m : ℕ) : Type 0 where
@@ -100,9 +76,3 @@ session_is slot s h k l m = simp (le-leb _ _ h, le-leb _ _ k, le-leb _ _ l, le-l
 pub session_closed : (slot : Slot) (s : Session) → s.running ≡ false → session_ok slot s ≡ true
 unfolding session_ok
 session_closed slot s h = simp (h, pick_no)
-
--- the last test of an open session is the whole, where the others hold
-pub session_last : (slot : Slot) (s : Session) → s.running ≡ true → 1 ≤ s.length → s.length ≤ slot.size → 1 ≤ s.place
-    → leb s.place s.length ≡ session_ok slot s
-unfolding session_ok
-session_last slot s r h k l = simp (r, le-leb _ _ h, le-leb _ _ k, le-leb _ _ l, both_yes, pick_yes)

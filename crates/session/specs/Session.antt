@@ -1,14 +1,13 @@
 -- The two regions and the session record: which are possible. "The slot is a region of it: start A, size S from 1 to 1,048,576, ending
 -- inside the memory. .. The session record is closed, or open with length L (1 to S), place n (1 to L), and perhaps a 32-byte tag."
 -- Assumes nothing.
-use Rattle.std.specs.Prelude.{ℕ, ◌+◌, ◌≤◌, ◌<◌, min, max, ◌≡◌, Bool, true, false, not, List, leb, ltb, length, replicate}
+use Rattle.std.specs.Prelude.{ℕ, ◌+◌, ◌≤◌, ◌<◌, min, max, ◌≡◌, Bool, true, false, not, List, leb, ltb, length, replicate, Result, Ok, Err}
 use Rattle.laws.specs.Choice.{pick, both}
+use Rattle.refusal.specs.declared.Refusal.{Refusal}
 use Rattle.refusal.specs.Number.{number_of}
 use Rattle.session.specs.declared.Slot.{Slot}
 use Rattle.session.specs.declared.Layout.{Layout}
 use Rattle.session.specs.declared.Session.{Session}
-use Rattle.session.specs.declared.Configured.{Configured}
-use Rattle.session.specs.declared.Configured.TheVariants.{Ready, Refused}
 
 -- a region lies in a memory of this many bytes
 abbrev pub lies_in_def : Slot → ℕ → Bool
@@ -72,9 +71,9 @@ pub data Said : Type 0 where
   ready : Layout → Said
   refused : ℕ → Said
 
-abbrev pub said : Configured → Said
-said (Ready layout) = ready layout
-said (Refused r) = refused (number_of r)
+abbrev pub said : Result Layout Refusal → Said
+said (Ok layout) = ready layout
+said (Err r) = refused (number_of r)
 
 -- "Configuration fixes A and S, which then stay": refusal 1, or the two regions
 unfoldable pub configured : Layout → ℕ → Said

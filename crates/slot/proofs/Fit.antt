@@ -1,7 +1,7 @@
 -- What the upload rules come to is fit: data goes only to an open session, at its place and within its length, and a session starts only
 -- with a length that the slot has.
 -- Assumes nothing.
-use mathlib.Core.Path.{◌≡◌, refl, ap}
+use mathlib.Core.Path.{◌≡◌}
 use mathlib.Core.Bool.{true, false, not}
 use mathlib.Core.List.{List}
 use Prim.Native.Nat.{ℕ, ◌+◌, ◌≤◌}
@@ -10,7 +10,7 @@ use lib.Dec.{ltb, eqb}
 use lib.ListN.{length, drop, length-drop}
 use lib.Seq.{length-take-le}
 use borrow.Author.Tests.{ltb-false, eqb-true, eqb-false, not-false}
-use Rattle.laws.specs.declared.Number.{Number}
+use Rattle.std.specs.Prelude.{Option, Some, None, Result, Ok, Err}
 use Rattle.laws.specs.Choice.{both}
 use Rattle.laws.proofs.Choice.{pick_case}
 use Rattle.reason.specs.declared.Reason.{Reason}
@@ -18,10 +18,10 @@ use Rattle.session.specs.declared.Slot.{Slot}
 use Rattle.session.specs.declared.Session.{Session}
 use Rattle.rules.specs.declared.Upload.{Upload}
 use Rattle.rules.specs.declared.Plan.{Plan}
-use Rattle.rules.specs.declared.Plan.TheVariants.{Refuse, Tell, Append, Start}
+use Rattle.rules.specs.declared.Plan.TheVariants.{Tell, Append, Start}
 use Rattle.session.specs.Session.{State}
 use Rattle.rules.specs.Plan.{largest, above, mis_sized_def, same_tag, plan_later_def, plan_sized_def, plan_length_def, plan_first_def, plan_of}
-use Rattle.slot.specs.Act.{keep, append, erase, end, data_in, act_of}
+use Rattle.slot.specs.Act.{keep, erase, end, data_in, act_of}
 use Rattle.slot.specs.History.{Fit}
 
 -- to do nothing fits always
@@ -40,90 +40,82 @@ unfolding Fit
 end_fit slot session = tt
 
 -- the data that a request names in the bytes it came in is as long as it says
-pub data_size : (s : List ℕ) (u : Upload) → u.start + u.size ≤ length s → length (data_in s u) ≡ u.size
-data_size s u h = length-take-le u.size (drop u.start s) (simp length-drop (omega arith))
-
--- what fits with the offset that a request names fits with the session's place, and so does other data that is equal
-pub fit_at_place : (slot : Slot) (session : Session) (off : ℕ) (x y : List ℕ) → x ≡ y → Fit slot session (append off x)
-    → Fit slot session (append session.place y)
-unfolding Fit
-fit_at_place slot session off x y e f =
-    let n : length x ≡ length y = ap length e in
-    (f.0, refl, omega arith, omega arith)
+pub data_size : (s : List ℕ) (u : Upload) → u.data.start + u.data.len ≤ length s → length (data_in s u) ≡ u.data.len
+data_size s u h = length-take-le u.data.len (drop u.data.start s) (simp length-drop (omega arith))
 
 -- the act that a plan comes to is fit, and where a session starts the request's tag is of 32 bytes or left out
-abbrev FitPlan : Slot → State → List ℕ → Upload → Plan → Type 0
-FitPlan slot st s u p = Fit slot st.session (act_of s u p) × ((l : ℕ) → p ≡ Start l → mis_sized_def u.sha ≡ false)
+abbrev FitPlan : Slot → State → List ℕ → Upload → Result Plan Reason → Type 0
+FitPlan slot st s u p = Fit slot st.session (act_of s u p) × ((l : ℕ) → p ≡ Ok (Start l) → mis_sized_def u.sha ≡ false)
 
-module _ (slot : Slot) (st : State) (s : List ℕ) (u : Upload) (inside : u.start + u.size ≤ length s) where
+module _ (slot : Slot) (st : State) (s : List ℕ) (u : Upload) (inside : u.data.start + u.data.len ≤ length s) where
   -- a refusal
-  refuse_fit : (why : Reason) → FitPlan slot st s u (Refuse why)
+  refuse_fit : (why : Reason) → FitPlan slot st s u (Err why)
   unfolding act_of
   refuse_fit why = (keep_fit slot st.session, λ l e. cc)
 
   -- an offset told
-  tell_fit : (n : ℕ) → FitPlan slot st s u (Tell n)
+  tell_fit : (n : ℕ) → FitPlan slot st s u (Ok (Tell n))
   unfolding act_of
   tell_fit n = (keep_fit slot st.session, λ l e. cc)
 
   -- data added to an open session, at its place and within its length
-  append_fit : st.session.running ≡ true → u.off ≡ st.session.place → 1 ≤ u.size → st.session.place + u.size ≤ st.session.length
-      → FitPlan slot st s u Append
+  append_fit : st.session.running ≡ true → u.off ≡ st.session.place → 1 ≤ u.data.len → st.session.place + u.data.len ≤ st.session.length
+      → FitPlan slot st s u (Ok Append)
   unfolding act_of Fit
   append_fit running at some room =
-      let size : length (data_in s u) ≡ u.size = data_size s u inside in
+      let size : length (data_in s u) ≡ u.data.len = data_size s u inside in
       ((running, at, omega arith, omega arith), λ l e. cc)
 
   -- a session started, with a length that the slot has and data within it
-  start_fit : (l : ℕ) → 1 ≤ u.size → u.size ≤ l → l ≤ slot.size → mis_sized_def u.sha ≡ false → FitPlan slot st s u (Start l)
+  start_fit : (l : ℕ) → 1 ≤ u.data.len → u.data.len ≤ l → l ≤ slot.size → mis_sized_def u.sha ≡ false → FitPlan slot st s u (Ok (Start l))
   unfolding act_of Fit
   start_fit l some room within tag =
-      let size : length (data_in s u) ≡ u.size = data_size s u inside in
+      let size : length (data_in s u) ≡ u.data.len = data_size s u inside in
       ((omega arith, omega arith, within), λ _ _. tag)
 
   -- a request with an offset above 0
-  later_fit : 1 ≤ u.size → FitPlan slot st s u (plan_later_def st u)
+  later_fit : 1 ≤ u.data.len → FitPlan slot st s u (plan_later_def st u)
   unfolding plan_later_def
   later_fit some =
       let e = st.session in
       let P = FitPlan slot st s u in
-      pick_case P (not e.running) (Tell 0) _ (λ _. tell_fit 0)
-      (λ running. pick_case P (not (eqb u.off e.place)) (Tell e.place) _ (λ _. tell_fit e.place)
-      (λ here. pick_case P (ltb e.length (u.off + u.size)) (Refuse Reason.BeyondLength) Append (λ _. refuse_fit Reason.BeyondLength)
+      pick_case P (not e.running) (Ok (Tell 0)) _ (λ _. tell_fit 0)
+      (λ running. pick_case P (not (eqb u.off e.place)) (Ok (Tell e.place)) _ (λ _. tell_fit e.place)
+      (λ here. pick_case P (ltb e.length (u.off + u.data.len)) (Err Reason.BeyondLength) (Ok Append) (λ _. refuse_fit Reason.BeyondLength)
       (λ within.
       let at : u.off ≡ e.place = eqb-true u.off e.place (not-false (eqb u.off e.place) here) in
-      let room : u.off + u.size ≤ e.length = ltb-false e.length (u.off + u.size) within in
+      let room : u.off + u.data.len ≤ e.length = ltb-false e.length (u.off + u.data.len) within in
       append_fit (not-false e.running running) at some (omega arith))))
 
   -- one at offset 0, with a length that the slot has
-  sized_fit : (l : ℕ) → 1 ≤ u.size → l ≤ slot.size → mis_sized_def u.sha ≡ false → FitPlan slot st s u (plan_sized_def st s u l)
+  sized_fit : (l : ℕ) → 1 ≤ u.data.len → l ≤ slot.size → mis_sized_def u.sha ≡ false → FitPlan slot st s u (plan_sized_def st s u l)
   unfolding plan_sized_def
   sized_fit l some within tag =
       let P = FitPlan slot st s u in
       let same = same_tag st s u.sha in
-      pick_case P (ltb l u.size) (Refuse Reason.DataTooLong) _ (λ _. refuse_fit Reason.DataTooLong)
-      (λ room. pick_case P (both same (not (eqb l st.session.length))) (Refuse Reason.OtherLength) _ (λ _. refuse_fit Reason.OtherLength)
-      (λ _. pick_case P u.upgrade (Refuse Reason.Upgrade) _ (λ _. refuse_fit Reason.Upgrade)
-      (λ _. pick_case P same (Tell st.session.place) (Start l) (λ _. tell_fit st.session.place)
-      (λ _. start_fit l some (ltb-false l u.size room) within tag))))
+      pick_case P (ltb l u.data.len) (Err Reason.DataTooLong) _ (λ _. refuse_fit Reason.DataTooLong)
+      (λ room. pick_case P (both same (not (eqb l st.session.length))) (Err Reason.OtherLength) _ (λ _. refuse_fit Reason.OtherLength)
+      (λ _. pick_case P u.upgrade (Err Reason.Upgrade) _ (λ _. refuse_fit Reason.Upgrade)
+      (λ _. pick_case P same (Ok (Tell st.session.place)) (Ok (Start l)) (λ _. tell_fit st.session.place)
+      (λ _. start_fit l some (ltb-false l u.data.len room) within tag))))
 
   -- one at offset 0, by its length
-  length_fit : (n : Number) → 1 ≤ u.size → FitPlan slot st s u (plan_length_def slot st s u n)
+  length_fit : (n : Option ℕ) → 1 ≤ u.data.len → FitPlan slot st s u (plan_length_def slot st s u n)
   unfolding plan_length_def
-  length_fit Number.Absent some = refuse_fit Reason.NoLength
-  length_fit (Number.Is l) some =
+  length_fit None some = refuse_fit Reason.NoLength
+  length_fit (Some l) some =
       let P = FitPlan slot st s u in
-      pick_case P (eqb l 0) (Refuse Reason.ZeroLength) _ (λ _. refuse_fit Reason.ZeroLength)
-      (λ _. pick_case P (ltb slot.size l) (Refuse Reason.AboveSlot) _ (λ _. refuse_fit Reason.AboveSlot)
-      (λ within. pick_case P (mis_sized_def u.sha) (Refuse Reason.TagSize) (plan_sized_def st s u l) (λ _. refuse_fit Reason.TagSize)
+      pick_case P (eqb l 0) (Err Reason.ZeroLength) _ (λ _. refuse_fit Reason.ZeroLength)
+      (λ _. pick_case P (ltb slot.size l) (Err Reason.AboveSlot) _ (λ _. refuse_fit Reason.AboveSlot)
+      (λ within. pick_case P (mis_sized_def u.sha) (Err Reason.TagSize) (plan_sized_def st s u l) (λ _. refuse_fit Reason.TagSize)
       (λ tag. sized_fit l some (ltb-false slot.size l within) tag)))
 
   -- one at offset 0
-  first_fit : 1 ≤ u.size → FitPlan slot st s u (plan_first_def slot st s u)
+  first_fit : 1 ≤ u.data.len → FitPlan slot st s u (plan_first_def slot st s u)
   unfolding plan_first_def
   first_fit some =
       let P = FitPlan slot st s u in
-      pick_case P (above 0 u.image) (Refuse Reason.OtherImage) (plan_length_def slot st s u u.length) (λ _. refuse_fit Reason.OtherImage)
+      pick_case P (above 0 u.image) (Err Reason.OtherImage) (plan_length_def slot st s u u.length) (λ _. refuse_fit Reason.OtherImage)
       (λ _. length_fit u.length some)
 
   -- every request
@@ -131,12 +123,12 @@ module _ (slot : Slot) (st : State) (s : List ℕ) (u : Upload) (inside : u.star
   unfolding plan_of
   any_fit =
       let P = FitPlan slot st s u in
-      pick_case P (ltb largest u.off) (Refuse Reason.OffsetTooLarge) _ (λ _. refuse_fit Reason.OffsetTooLarge)
-      (λ _. pick_case P (above largest u.length) (Refuse Reason.LengthTooLarge) _ (λ _. refuse_fit Reason.LengthTooLarge)
-      (λ _. pick_case P (eqb u.size 0) (Refuse Reason.EmptyData) _ (λ _. refuse_fit Reason.EmptyData)
+      pick_case P (ltb largest u.off) (Err Reason.OffsetTooLarge) _ (λ _. refuse_fit Reason.OffsetTooLarge)
+      (λ _. pick_case P (above largest u.length) (Err Reason.LengthTooLarge) _ (λ _. refuse_fit Reason.LengthTooLarge)
+      (λ _. pick_case P (eqb u.data.len 0) (Err Reason.EmptyData) _ (λ _. refuse_fit Reason.EmptyData)
       (λ data-there.
-      let none : u.size ≡ 0 → ⊥ = eqb-false u.size 0 data-there in
-      let some : 1 ≤ u.size = omega arith in
+      let none : u.data.len ≡ 0 → ⊥ = eqb-false u.data.len 0 data-there in
+      let some : 1 ≤ u.data.len = omega arith in
       pick_case P (ltb 0 u.off) (plan_later_def st u) (plan_first_def slot st s u) (λ _. later_fit some) (λ _. first_fit some))))
 
   -- what the upload rules come to is fit
@@ -144,5 +136,5 @@ module _ (slot : Slot) (st : State) (s : List ℕ) (u : Upload) (inside : u.star
   planned_fit = any_fit.0
 
   -- where they start a session, the request's tag is of 32 bytes or left out
-  pub started_tag : (l : ℕ) → plan_of slot st s u ≡ Start l → mis_sized_def u.sha ≡ false
+  pub started_tag : (l : ℕ) → plan_of slot st s u ≡ Ok (Start l) → mis_sized_def u.sha ≡ false
   started_tag l e = any_fit.1 l e

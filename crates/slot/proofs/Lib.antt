@@ -1,4 +1,3 @@
-pub mod Laws
-pub mod Memory
 pub mod Fit
+pub mod Memory
 pub mod History

@@ -1,15 +1,16 @@
 -- What a request does to memory, session and tag, whoever asked for it.
 -- Assumes nothing.
-use Rattle.std.specs.Prelude.{ℕ, ◌+◌, Bool, true, List, length, replicate}
+use Rattle.std.specs.Prelude.{ℕ, ◌+◌, Bool, true, List, length, replicate, Option, is_some, Result, Ok, Err}
 use Rattle.laws.specs.declared.Run.{Run}
 use Rattle.laws.specs.Choice.{pick}
 use Rattle.laws.specs.Bytes.{pasted}
-use Rattle.laws.specs.Parts.{part_of, bytes_in, is_there_def}
+use Rattle.laws.specs.Parts.{part_of, bytes_in}
+use Rattle.reason.specs.declared.Reason.{Reason}
 use Rattle.session.specs.declared.Slot.{Slot}
 use Rattle.session.specs.declared.Session.{Session}
 use Rattle.rules.specs.declared.Upload.{Upload}
 use Rattle.rules.specs.declared.Plan.{Plan}
-use Rattle.rules.specs.declared.Plan.TheVariants.{Refuse, Tell, Append, Start}
+use Rattle.rules.specs.declared.Plan.TheVariants.{Tell, Append, Start}
 use Rattle.session.specs.Session.{State, state_of, no_tag, closed_in}
 
 -- what may be done: nothing; data added at the session's place, with the offset that its request names; a session started, with its length,
@@ -43,15 +44,15 @@ done slot end st = closed_in st.memory
 
 -- a request's data, out of the bytes that it came in
 abbrev pub data_in : List ℕ → Upload → List ℕ
-data_in s u = part_of s u.start u.size
+data_in s u = part_of s u.data.start u.data.len
 
 -- the tag that a session keeps: the request's, or zeros where it has none
-unfoldable pub tag_kept : List ℕ → Run → List ℕ
-tag_kept s sha = pick (is_there_def sha) (bytes_in s sha) no_tag
+unfoldable pub tag_kept : List ℕ → Option Run → List ℕ
+tag_kept s sha = pick (is_some sha) (bytes_in s sha) no_tag
 
 -- the act that a plan comes to, for a request
-unfoldable pub act_of : List ℕ → Upload → Plan → Act
-act_of s u (Refuse why) = keep
-act_of s u (Tell n) = keep
-act_of s u Append = append u.off (data_in s u)
-act_of s u (Start l) = start l (is_there_def u.sha) (tag_kept s u.sha) (data_in s u)
+unfoldable pub act_of : List ℕ → Upload → Result Plan Reason → Act
+act_of s u (Err why) = keep
+act_of s u (Ok (Tell n)) = keep
+act_of s u (Ok Append) = append u.off (data_in s u)
+act_of s u (Ok (Start l)) = start l (is_some u.sha) (tag_kept s u.sha) (data_in s u)

@@ -4,10 +4,8 @@ use mathlib.Core.Path.{◌≡◌, refl, ap₂}
 use mathlib.Core.Bool.{true}
 use mathlib.Core.List.{List, ◌++◌}
 use Prim.Native.Nat.{ℕ, ◌+◌, ◌*◌, ◌/◌, ◌%◌, ◌≤◌, ◌<◌}
-use native.Mathlib.Nat.{add-zero}
 use native.Mathlib.Omega.{arith}
-use lib.ListN.{length, get_or, drop, length-append}
-use lib.Seq.{get_or-drop}
+use lib.ListN.{length, drop, length-append}
 use borrow.Author.Tests.{le-leb, eq-eqb}
 use Rattle.laws.specs.Bytes.{be16, of_be16}
 use Rattle.laws.proofs.Choice.{both_yes}
@@ -18,11 +16,6 @@ use Rattle.smp.specs.Packet.{header_in_def, sized, header_bytes}
 pub header_length : (h : Header) → length (header_bytes h) ≡ 8
 unfolding header_bytes be16
 header_length h = refl
-
--- two bytes at a place, the high one first
-pub two_bytes : (s : List ℕ) (at : ℕ) → get_or s at 0 * 256 + get_or s (at + 1) 0 ≡ of_be16 (drop at s)
-unfolding of_be16
-two_bytes s at = rw (get_or-drop at s 0 0, get_or-drop at s 1 0, add-zero at)
 
 -- a header written is read back
 pub header_back : (h : Header) (m : List ℕ) → h.length < 65536 → h.group < 65536 → header_in_def (header_bytes h ++ m) ≡ h

@@ -4,7 +4,6 @@ use mathlib.Core.Path.{◌≡◌, refl, sym, ap, ap₂, ◌∙◌}
 use mathlib.Core.Bool.{true, false, not}
 use mathlib.Core.List.{List, [], ◌∷◌, ◌++◌, append_assoc}
 use Prim.Native.Nat.{ℕ, suc, ◌+◌, ◌-◌, ◌≤◌, ◌<◌}
-use native.Mathlib.Nat.{zero-add}
 use native.Mathlib.Decide.{dec_le}
 use native.Mathlib.Omega.{arith}
 use lib.Dec.{ltb, leb, lit<}
@@ -14,52 +13,35 @@ use lib.Seq.{drop_at}
 use Rattle.laws.specs.Bytes.{pasted, be16}
 use Rattle.laws.proofs.Choice.{pick_yes, pick_no}
 use Rattle.laws.proofs.Lists.{pasted_is, pasted_start, pasted_twice}
-use Rattle.cbor.specs.Inner.{Put}
+use Rattle.laws.specs.declared.Run.{Run}
+use Rattle.writer.specs.declared.Writer.{Writer}
+use Rattle.writer.specs.Writer.{HasRoom, Wrote}
+use Rattle.writer.proofs.Steps.{room_first, room_second, wrote_twice}
 use Rattle.cbor.specs.Write.{head_of, unsigned, text_of, map_of}
 use Rattle.cbor.proofs.Laws.{head_size, head_length, head_long, len_one, len_four, form_tiny}
-use Rattle.fields.specs.Keys.{name_r, name_rc, name_off}
+use Rattle.fields.specs.Keys.{name_rc, name_off}
 use Rattle.smp.specs.declared.Header.{Header}
 use Rattle.smp.specs.declared.Reply.{Reply}
 use Rattle.smp.specs.Packet.{header_bytes}
-use Rattle.smp.specs.Reply.{rc_map, reply_map, reply_header_def, reply_packet, reply_bytes}
-use Rattle.smp.specs.Inner.{Written}
+use Rattle.reason.specs.Rc.{rc_of_def}
+use Rattle.reason.proofs.Byte.{rc_byte}
+use Rattle.smp.specs.Reply.{rc_map, reply_map, reply_header_def, reply_packet, reply_bytes, Sayable}
+use Rattle.smp.specs.Inner.{Starts, Written}
 use Rattle.smp.proofs.Headers.{header_length}
 
--- what is written where a first list ended stands joined to it
-pub put_then : {b₀ b₁ b₂ : List ℕ} {at r₁ r₂ : ℕ} {x y : List ℕ} → at + length x ≤ length b₀ → Put r₁ b₁ b₀ at x → Put r₂ b₂ b₁ r₁ y
-    → Put r₂ b₂ b₀ at (x ++ y)
-put_then {b₀} {b₁} {b₂} {at} {r₁} {r₂} {x} {y} room p q =
-    record {
-      place = rw length-append (omega (arith, p.place, q.place));
-      written = q.written ∙ ap₂ (λ (m : List ℕ) (k : ℕ). pasted m k y) p.written p.place ∙ pasted_twice b₀ at x y room;
-    }
+-- a third after two
+module _ (a b : Writer) (x y z : List ℕ) (r : HasRoom a (x ++ (y ++ z))) (u : Wrote a b x) where
+  -- the second has room after the first
+  pub second_room : HasRoom b y
+  second_room = room_first b y z (room_second a b x (y ++ z) r u)
 
--- where two lists have room, the first has
-pub room_first : (at : ℕ) (x y : List ℕ) {m : ℕ} → at + length (x ++ y) ≤ m → at + length x ≤ m
-room_first at x y room = omega (arith, simp length-append at room)
+  -- the third has room after the second
+  pub third_room : (c : Writer) → Wrote b c y → HasRoom c z
+  third_room c v = room_second b c y z (room_second a b x (y ++ z) r u) v
 
--- where two lists have room, the second has after the first
-pub room_rest : (at : ℕ) (x y : List ℕ) {r m : ℕ} → r ≡ at + length x → at + length (x ++ y) ≤ m → r + length y ≤ m
-room_rest at x y e room = omega (arith, simp length-append at room)
-
--- three lists written one after the other
-pub put_three : (at : ℕ) (x y z : List ℕ) {b₀ b₁ b₂ b₃ : List ℕ} {r₁ r₂ r₃ : ℕ} → at + length ((x ++ y) ++ z) ≤ length b₀ → Put r₁ b₁ b₀ at x
-    → Put r₂ b₂ b₁ r₁ y → Put r₃ b₃ b₂ r₂ z → Put r₃ b₃ b₀ at ((x ++ y) ++ z)
-put_three at x y z room p q r =
-    let two = room_first at (x ++ y) z room in
-    put_then two (put_then (room_first at x y two) p q) r
-
--- where three lists have room, the first has
-pub room_one : (at : ℕ) (x y z : List ℕ) {m : ℕ} → at + length ((x ++ y) ++ z) ≤ m → at + length x ≤ m
-room_one at x y z room = room_first at x y (room_first at (x ++ y) z room)
-
--- where three lists have room, the second has after the first
-pub room_two : (at : ℕ) (x y z : List ℕ) {r m : ℕ} → r ≡ at + length x → at + length ((x ++ y) ++ z) ≤ m → r + length y ≤ m
-room_two at x y z e room = room_rest at x y e (room_first at (x ++ y) z room)
-
--- where three lists have room, the third has after the second
-pub room_three : (at : ℕ) (x y z : List ℕ) {r₁ r₂ m : ℕ} → r₁ ≡ at + length x → r₂ ≡ r₁ + length y → at + length ((x ++ y) ++ z) ≤ m → r₂ + length z ≤ m
-room_three at x y z e f room = omega (arith, simp length-append at room)
+  -- three that are written one after the other
+  pub wrote_three : (c d : Writer) → Wrote b c y → Wrote c d z → Wrote a d (x ++ (y ++ z))
+  wrote_three c d v w = wrote_twice a b d x (y ++ z) r u (wrote_twice b c d y z (room_second a b x (y ++ z) r u) v w)
 
 -- what is written in front of a list that stands at a place is joined to it
 pub pasted_front : (d : List ℕ) (at : ℕ) (x y : List ℕ) → length x ≡ at → at + length y ≤ length d → pasted (pasted d at y) 0 x ≡ pasted d 0 (x ++ y)
@@ -84,41 +66,44 @@ pub header_put : (h : Header) (d e₁ e₂ e₃ e₄ : List ℕ) → 8 ≤ lengt
     → e₄ ≡ pasted d 0 (header_bytes h)
 unfolding header_bytes be16
 header_put h d e₁ e₂ e₃ e₄ room a b c e =
-    let p : Put 2 e₁ d 0 (h.op ∷ h.flags ∷ []) = record { place = refl; written = a } in
-    let q : Put 4 e₂ e₁ 2 (be16 h.length) = record { place = refl; written = b } in
-    let r : Put 6 e₃ e₂ 4 (be16 h.group) = record { place = refl; written = c } in
-    let s : Put 8 e₄ e₃ 6 (h.sequence ∷ h.command ∷ []) = record { place = refl; written = e } in
-    (put_then (omega arith) (put_then (omega arith) (put_then (omega arith) p q) r) s).written
+    let first : List ℕ = h.op ∷ h.flags ∷ [] in
+    let two : List ℕ = first ++ be16 h.length in
+    let three : List ℕ = two ++ be16 h.group in
+    e
+    ∙ ap (λ (l : List ℕ). pasted l 6 (h.sequence ∷ h.command ∷ []))
+    (c ∙ ap (λ (l : List ℕ). pasted l 4 (be16 h.group))
+    (b ∙ ap (λ (l : List ℕ). pasted l 2 (be16 h.length)) a ∙ pasted_twice d 0 first (be16 h.length) (omega arith))
+    ∙ pasted_twice d 0 two (be16 h.group) (omega arith))
+    ∙ pasted_twice d 0 three (h.sequence ∷ h.command ∷ []) (omega arith)
 
 -- a map at place 8 and then the header with its length in front of it are the packet
 pub packet_put : (h : Header) (m : List ℕ) {d e₁ e₂ : List ℕ} (end : ℕ) → 8 + length m ≤ length d
-    → Put end e₁ d 8 m
+    → end ≡ 8 + length m
+    → e₁ ≡ pasted d 8 m
     → e₂ ≡ pasted e₁ 0 (header_bytes (reply_header_def h (end - 8)))
-    → Put end e₂ d 0 (reply_packet h m)
+    → Starts d (reply_packet h m) end e₂
 unfolding reply_packet
-packet_put h m {d} {e₁} {e₂} end room p w =
-    let e : end - 8 ≡ length m = omega (arith, p.place) in
+packet_put h m {d} {e₁} {e₂} end room place written w =
+    let e : end - 8 ≡ length m = omega (arith, place) in
     let size : length (header_bytes (reply_header_def h (length m))) ≡ 8 = header_length (reply_header_def h (length m)) in
     record {
-      place = rw length-append (omega (arith, p.place));
-      written =
+      count = rw length-append (omega (arith, place));
+      bytes =
           w
-          ∙ ap₂ (λ (l : List ℕ) (n : ℕ). pasted l 0 (header_bytes (reply_header_def h n))) p.written e
+          ∙ ap₂ (λ (l : List ℕ) (n : ℕ). pasted l 0 (header_bytes (reply_header_def h n))) written e
           ∙ pasted_front d 8 (header_bytes (reply_header_def h (length m))) m size room;
     }
 
 -- a reply that fits is written whole
-pub written_whole : (h : Header) (m d : List ℕ) (n : ℕ) (e : List ℕ) → ltb (length d) (8 + length m) ≡ false → Put n e d 0 (reply_packet h m) → Written h m d n e
+pub written_whole : (h : Header) (m d : List ℕ) (n : ℕ) (e : List ℕ) → ltb (length d) (8 + length m) ≡ false → Starts d (reply_packet h m) n e → Written h m d n e
 unfolding reply_bytes
-written_whole h m d n e fits p =
-    record { count = simp (fits, pick_no) (p.place ∙ zero-add (length (reply_packet h m))); bytes = simp (fits, pick_no) p.written }
+written_whole h m d n e fits p = record { count = simp (fits, pick_no) p.count; bytes = simp (fits, pick_no) p.bytes }
 
 -- a reply that does not fit is rc 7 instead
-pub written_seven : (h : Header) (m d : List ℕ) (n : ℕ) (e : List ℕ) → ltb (length d) (8 + length m) ≡ true → Put n e d 0 (reply_packet h (rc_map 7))
+pub written_seven : (h : Header) (m d : List ℕ) (n : ℕ) (e : List ℕ) → ltb (length d) (8 + length m) ≡ true → Starts d (reply_packet h (rc_map 7)) n e
     → Written h m d n e
 unfolding reply_bytes
-written_seven h m d n e long p =
-    record { count = simp (long, pick_yes) (p.place ∙ zero-add (length (reply_packet h (rc_map 7)))); bytes = simp (long, pick_yes) p.written }
+written_seven h m d n e long p = record { count = simp (long, pick_yes) p.count; bytes = simp (long, pick_yes) p.bytes }
 
 -- the shortest head of an argument below 24 is one byte
 pub head_tiny : (m n : ℕ) → n < 24 → length (head_of m n) ≡ 1
@@ -132,20 +117,10 @@ head_byte m n h = rw head_long (len_one n h)
 pub head_word : (m n : ℕ) → n < 4294967296 → length (head_of m n) ≤ 5
 head_word m n h = rw head_long (len_four n h)
 
--- the map of a place in the parts that its writer writes
-pub placed_parts : (s : List ℕ) (n : ℕ) → reply_map s (Reply.Placed n) ≡ (map_of 2 ++ (text_of name_rc ++ unsigned 0)) ++ (text_of name_off ++ unsigned n)
+-- the map of a place in the parts that are written
+pub placed_parts : (s : List ℕ) (n : ℕ) → reply_map s (Reply.Placed n) ≡ map_of 2 ++ ((text_of name_rc ++ unsigned 0) ++ (text_of name_off ++ unsigned n))
 unfolding reply_map
-placed_parts s n =
-    ap (λ (l : List ℕ). map_of 2 ++ l) (sym (append_assoc (text_of name_rc) (unsigned 0) (text_of name_off ++ unsigned n)))
-    ∙ sym (append_assoc (map_of 2) (text_of name_rc ++ unsigned 0) (text_of name_off ++ unsigned n))
-
--- the map of a text in the parts that its writer writes
-pub echo_parts : (s : List ℕ) (start len : ℕ) → reply_map s (Reply.Text start len) ≡ (map_of 1 ++ text_of name_r) ++ text_of
-    (take (start + len - start) (drop start s))
-unfolding reply_map
-echo_parts s start len =
-    let e : start + len - start ≡ len = omega arith in
-    rw e (sym (append_assoc (map_of 1) (text_of name_r) (text_of (take len (drop start s)))))
+placed_parts s n = ap (λ (l : List ℕ). map_of 2 ++ l) (sym (append_assoc (text_of name_rc) (unsigned 0) (text_of name_off ++ unsigned n)))
 
 -- how long the map of a return code is
 pub rc_map_lem : (n : ℕ) → length (rc_map n) ≡ 4 + length (unsigned n)
@@ -157,11 +132,11 @@ unfolding reply_map
 placed_map s n = simp length-append (omega (arith, head_tiny 5 2 (lit< tt), head_tiny 3 2 (lit< tt), head_tiny 0 0 (lit< tt), head_tiny 3 3 (lit< tt)))
 
 -- how long the map of a text is
-pub text_map : (s : List ℕ) (start len : ℕ) → start + len ≤ length s → length (reply_map s (Reply.Text start len)) ≡ 3 + length (head_of 0 len) + len
+pub text_map : (s : List ℕ) (r : Run) → r.start + r.len ≤ length s → length (reply_map s (Reply.Text r)) ≡ 3 + length (head_of 0 r.len) + r.len
 unfolding reply_map
-text_map s start len h =
-    let e : length (take len (drop start s)) ≡ len = simp (length-take, length-drop) (omega arith) in
-    simp (length-append, e) (omega (arith, head_tiny 5 1 (lit< tt), head_tiny 3 1 (lit< tt), head_length 3 len))
+text_map s r h =
+    let e : length (take r.len (drop r.start s)) ≡ r.len = simp (length-take, length-drop) (omega arith) in
+    simp (length-append, e) (omega (arith, head_tiny 5 1 (lit< tt), head_tiny 3 1 (lit< tt), head_length 3 r.len))
 
 -- a reply's packet is eight bytes longer than its map
 pub packet_length : (h : Header) (m : List ℕ) → length (reply_packet h m) ≡ 8 + length m
@@ -199,8 +174,21 @@ leb_not a b =
     ]
 
 -- a text fits by its length
-pub text_fits : (s : List ℕ) (start len k room : ℕ) → start + len ≤ length s → k ≡ length (head_of 0 len) → leb (11 + k + len) room
-    ≡ not (ltb room (8 + length (reply_map s (Reply.Text start len))))
-text_fits s start len k room h e =
-    let n : 8 + length (reply_map s (Reply.Text start len)) ≡ 11 + k + len = omega (arith, text_map s start len h) in
-    rw n (leb_not (11 + k + len) room)
+pub text_fits : (s : List ℕ) (r : Run) (k room : ℕ) → r.start + r.len ≤ length s → k ≡ length (head_of 0 r.len) → leb (11 + k + r.len) room
+    ≡ not (ltb room (8 + length (reply_map s (Reply.Text r))))
+text_fits s r k room h e =
+    let n : 8 + length (reply_map s (Reply.Text r)) ≡ 11 + k + r.len = omega (arith, text_map s r h) in
+    rw n (leb_not (11 + k + r.len) room)
+
+-- what starts a buffer starts the same one, by whatever way it came back
+pub starts_back : {d x e f : List ℕ} {n : ℕ} → Starts d x n e → f ≡ e → Starts d x n f
+starts_back s q = record { count = s.count; bytes = q ∙ s.bytes }
+
+-- every reply but a text fits
+pub others_fit : (s : List ℕ) (reply : Reply) (room : ℕ) → 32 ≤ room → Sayable s reply → ((r : Run) → reply ≡ Reply.Text r → ⊥)
+    → ltb room (8 + length (reply_map s reply)) ≡ false
+unfolding reply_map
+others_fit s (Reply.Refused why) room h say ne = rc_fits (rc_of_def why) room (rc_byte why) h
+others_fit s Reply.Done room h say ne = rc_fits 0 room (lit< tt) h
+others_fit s (Reply.Placed n) room h say ne = placed_fits s n room say h
+others_fit s (Reply.Text r) room h say ne = absurd (ne r refl)

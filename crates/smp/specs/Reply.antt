@@ -21,7 +21,7 @@ unfoldable pub reply_map : List ℕ → Reply → List ℕ
 reply_map s (Reply.Refused why) = rc_map (rc_of_def why)
 reply_map s Reply.Done = rc_map 0
 reply_map s (Reply.Placed n) = map_of 2 ++ (text_of name_rc ++ (unsigned 0 ++ (text_of name_off ++ unsigned n)))
-reply_map s (Reply.Text start len) = map_of 1 ++ (text_of name_r ++ text_of (part_of s start len))
+reply_map s (Reply.Text r) = map_of 1 ++ (text_of name_r ++ text_of (part_of s r.start r.len))
 
 -- "the reply has op plus 1, flags 0, and the same group, sequence and command"
 abbrev pub reply_header_def : Header → ℕ → Header
@@ -41,4 +41,4 @@ abbrev pub Sayable : List ℕ → Reply → Type 0
 Sayable s (Reply.Refused why) = Unit {0}
 Sayable s Reply.Done = Unit {0}
 Sayable s (Reply.Placed n) = n < 4294967296
-Sayable s (Reply.Text start len) = (start + len ≤ length s) × (length s ≤ 65533)
+Sayable s (Reply.Text r) = (r.start + r.len ≤ length s) × (length s ≤ 65533)

@@ -1,19 +1,21 @@
 // A packet of the Simple Management Protocol: its header, and replies written.
 #![tactic(auto)]
 
-ghost use Rattle.std.specs.Prelude.{◌≡◌, not, [], ◌∷◌, ◌++◌, ◌+◌, ◌-◌, ◌≤◌, ◌<◌, ltb, length, drop};
-ghost use Rattle.laws.specs.Bytes.{pasted, of_be16};
-ghost use Rattle.cbor.specs.Inner.{Put};
-ghost use Rattle.cbor.specs.Write.{unsigned, text_of};
+ghost use Rattle.std.specs.Prelude.{◌≡◌, not, ◌++◌, ◌+◌, ◌-◌, ◌≤◌, ◌<◌, ltb, length};
+ghost use Rattle.laws.specs.Bytes.{pasted};
+ghost use Rattle.writer.specs.Writer.{HasRoom, Wrote};
+ghost use Rattle.cbor.specs.Write.{head_of, unsigned, text_of};
 ghost use Rattle.reason.specs.Rc.{rc_of_def};
 ghost use Rattle.smp.specs.Packet.{header_in_def, sized, header_bytes};
 ghost use Rattle.smp.specs.Reply.{rc_map, reply_map, reply_header_def, reply_packet, Sayable};
-ghost use Rattle.smp.specs.Inner.{Written};
+ghost use Rattle.smp.specs.Inner.{Starts, Written};
 
+use laws::Run;
 use reason::Reason;
+use writer::Writer;
 
 // The eight bytes before a packet's map.
-#[derive(Clone, Copy)]
+#[derive(Clone, Copy, Debug, PartialEq, Eq)]
 pub struct Header {
     pub op: u8,
     pub flags: u8,
@@ -24,7 +26,7 @@ pub struct Header {
 }
 
 // What a reply says.
-#[derive(Clone, Copy)]
+#[derive(Clone, Copy, Debug, PartialEq, Eq)]
 pub enum Reply {
     // A refusal for this reason.
     Refused(Reason),
@@ -32,62 +34,30 @@ pub enum Reply {
     Done,
     // Success, and the next expected offset.
     Placed(usize),
-    // The text of the packet from start on.
-    Text { start: usize, len: usize },
-}
-
-// The number in two bytes of s from place at on, the high one first; a byte past the end counts as 0.
-fn number_at(s: &[u8], at: usize) -> usize
-    requires { at < 65536 }
-    ensures { (result ≡ of_be16 (drop at s.now)) × (result < 65536) }
-{
-    let high = laws::wide(laws::byte_at(s, at));
-    let low = laws::wide(laws::byte_at(s, at + 1));
-    high * 256 + low
+    // This text of the packet.
+    Text(Run),
 }
 
 // The header of a packet.
 pub fn header_in(s: &[u8]) -> Header
     ensures { result ≡ header_in_def s.now }
 {
-    let op = laws::byte_at(s, 0);
-    let flags = laws::byte_at(s, 1);
-    let length = number_at(s, 2);
-    let group = number_at(s, 4);
-    let sequence = laws::byte_at(s, 6);
-    let command = laws::byte_at(s, 7);
     Header {
-        op,
-        flags,
-        length,
-        group,
-        sequence,
-        command,
+        op: laws::byte_at(s, 0),
+        flags: laws::byte_at(s, 1),
+        length: laws::be16_at(s, 2),
+        group: laws::be16_at(s, 4),
+        sequence: laws::byte_at(s, 6),
+        command: laws::byte_at(s, 7),
     }
 }
 
 // Whether a packet has the right length.
+#[tactic(auto, unfolding(crate::specs::Packet::sized, laws::specs::Choice::both))]
 pub fn is_sized(s: &[u8]) -> bool
     ensures { result ≡ sized s.now }
 {
-    let n = s.len();
-    if n < 8 {
-        return false;
-    }
-    let payload = number_at(s, 2);
-    if n != 8 + payload {
-        return false;
-    }
-    n <= 65533
-}
-
-// Writes two bytes into buf from place at on; the other bytes of buf stay.
-fn put_two(buf: &mut [u8], at: usize, a: u8, b: u8)
-    requires { at + 1 < length buf.old }
-    ensures { buf.new ≡ pasted buf.old at (a ∷ b ∷ []) }
-{
-    buf[at] = a;
-    buf[at + 1] = b;
+    8 <= s.len() && s.len() == 8 + laws::be16_at(s, 2) && s.len() <= 65533
 }
 
 // Writes a header into the first eight bytes of buf; the other bytes of buf stay.
@@ -95,98 +65,83 @@ pub fn put_header(buf: &mut [u8], h: Header)
     requires { 8 ≤ length buf.old }
     ensures { buf.new ≡ pasted buf.old 0 (header_bytes h) }
 {
-    put_two(buf, 0, h.op, h.flags);
+    laws::put(buf, 0, &[h.op, h.flags]);
     laws::put_be16(buf, 2, h.length);
     laws::put_be16(buf, 4, h.group);
-    put_two(buf, 6, h.sequence, h.command);
+    laws::put(buf, 6, &[h.sequence, h.command]);
 }
 
-// Writes a text string into buf from place at on, and gives the place after it.
-pub fn put_text(buf: &mut [u8], at: usize, text: &[u8]) -> usize
-    requires { at + length (text_of text.now) ≤ length buf.old }
-    ensures { Put result buf.new buf.old at (text_of text.now) }
+// Writes a string of this major type: 2 of bytes, 3 of text.
+pub fn put_string(out: &mut Writer, major: u8, x: &[u8])
+    requires major_bound { major < 8 }
+    requires has_room { HasRoom out.old (head_of major (length x.now) ++ x.now) }
+    ensures { Wrote out.old out.new (head_of major (length x.now) ++ x.now) }
 {
-    let next = cbor::put_head(buf, at, 3, text.len() as u64);
-    laws::put(buf, next, text);
-    next + text.len()
+    cbor::put_head(out, major, x.len() as u64);
+    out.bytes(x);
 }
 
-// Writes a key of this name with a number into buf from place at on, and gives the place after them.
-pub fn put_number(buf: &mut [u8], at: usize, name: &[u8], n: u64) -> usize
-    requires { at + length (text_of name.now ++ unsigned n) ≤ length buf.old }
-    ensures { Put result buf.new buf.old at (text_of name.now ++ unsigned n) }
+// Writes a text string.
+pub fn put_text(out: &mut Writer, text: &[u8])
+    requires { HasRoom out.old (text_of text.now) }
+    ensures { Wrote out.old out.new (text_of text.now) }
 {
-    let next = put_text(buf, at, name);
-    cbor::put_head(buf, next, 0, n)
+    put_string(out, 3, text);
 }
 
-// Writes the map {"rc": n} into buf from place 8 on, and gives the place after it.
-fn put_rc(buf: &mut [u8], n: u8) -> usize
-    requires { 8 + length (rc_map n) ≤ length buf.old }
-    ensures { Put result buf.new buf.old 8 (rc_map n) }
+// Writes a key of this name with a number.
+pub fn put_number(out: &mut Writer, name: &[u8], n: u64)
+    requires { HasRoom out.old (text_of name.now ++ unsigned n) }
+    ensures { Wrote out.old out.new (text_of name.now ++ unsigned n) }
 {
-    let next = cbor::put_head(buf, 8, 5, 1);
-    put_number(buf, next, b"rc", n as u64)
+    put_text(out, name);
+    cbor::put_head(out, 0, n);
 }
 
-// Writes the map {"rc": 0, "off": n} into buf from place 8 on, and gives the place after it.
-fn put_placed(buf: &mut [u8], n: usize) -> usize
-    requires { 8 + length (reply_map [] (Reply.Placed n)) ≤ length buf.old }
-    ensures { Put result buf.new buf.old 8 (reply_map [] (Reply.Placed n)) }
+// Writes the map {"rc": n}.
+fn put_rc(out: &mut Writer, n: u8)
+    requires { HasRoom out.old (rc_map n) }
+    ensures { Wrote out.old out.new (rc_map n) }
 {
-    let first = cbor::put_head(buf, 8, 5, 2);
-    let second = put_number(buf, first, b"rc", 0);
-    put_number(buf, second, b"off", n as u64)
+    cbor::put_head(out, 5, 1);
+    put_number(out, b"rc", u64::from(n));
 }
 
-// Writes the map {"r": text} into buf from place 8 on, the text that of s from start on, and gives the place after it.
-fn put_echo(buf: &mut [u8], s: &[u8], start: usize, len: usize) -> usize
-    requires len_in_bounds { start + len ≤ length s.now }
-    requires len_in_bounds_2 { 8 + length (reply_map s.now (Reply.Text start len)) ≤ length buf.old }
-    ensures { Put result buf.new buf.old 8 (reply_map s.now (Reply.Text start len)) }
-{
-    let first = cbor::put_head(buf, 8, 5, 1);
-    let second = put_text(buf, first, b"r");
-    let end = start + len;
-    put_text(buf, second, &s[start..end])
-}
-
-// Writes a reply's map into buf from place 8 on, and gives the place after it.
-fn put_map(buf: &mut [u8], s: &[u8], reply: Reply) -> usize
+// Writes a reply's map: {"rc": n}, {"rc": 0, "off": n} or {"r": text}, the text a part of s.
+fn put_map(out: &mut Writer, s: &[u8], reply: Reply)
     requires sayable { Sayable s.now reply }
-    requires reply_in_bounds { 8 + length (reply_map s.now reply) ≤ length buf.old }
-    ensures { Put result buf.new buf.old 8 (reply_map s.now reply) }
+    requires has_room { HasRoom out.old (reply_map s.now reply) }
+    ensures { Wrote out.old out.new (reply_map s.now reply) }
 {
     match reply {
-        Reply::Refused(why) => put_rc(buf, reason::rc(why)),
-        Reply::Done => put_rc(buf, 0),
-        Reply::Placed(n) => put_placed(buf, n),
-        Reply::Text { start, len } => put_echo(buf, s, start, len),
+        Reply::Refused(why) => put_rc(out, u8::from(why)),
+        Reply::Done => put_rc(out, 0),
+        Reply::Placed(n) => {
+            cbor::put_head(out, 5, 2);
+            put_number(out, b"rc", 0);
+            put_number(out, b"off", n as u64);
+        }
+        Reply::Text(text) => {
+            cbor::put_head(out, 5, 1);
+            put_text(out, b"r");
+            put_text(out, text.of(s));
+        }
     }
 }
 
-// The header of a reply with a map of n bytes.
-fn reply_header(h: Header, n: usize) -> Header
-    requires { h.op < 255 }
-    ensures { result ≡ reply_header_def h n }
-{
-    Header {
-        op: h.op + 1,
-        flags: 0,
-        length: n,
-        group: h.group,
-        sequence: h.sequence,
-        command: h.command,
-    }
-}
-
-// Writes the header of a reply whose map stands from place 8 of buf to this end.
+// Writes the header of a reply whose map stands from place 8 of buf to this end. What is asked of the header's op, of the buffer's length and of the
+// reply stands in each contract: op is any byte in a header that is read, and the others are of what is lent, so a type would hold none of it.
 pub fn put_reply_header(h: Header, buf: &mut [u8], end: usize)
     requires op_bound { h.op < 255 }
     requires le_end { (8 ≤ end) × (8 ≤ length buf.old) }
     ensures { buf.new ≡ pasted buf.old 0 (header_bytes (reply_header_def h (end - 8))) }
 {
-    let header = reply_header(h, end - 8);
+    let header = Header {
+        op: h.op + 1,
+        flags: 0,
+        length: end - 8,
+        ..h
+    };
     put_header(buf, header);
 }
 
@@ -195,10 +150,12 @@ fn put_reply(h: Header, s: &[u8], reply: Reply, buf: &mut [u8]) -> usize
     requires op_bound { h.op < 255 }
     requires sayable { Sayable s.now reply }
     requires reply_in_bounds { 8 + length (reply_map s.now reply) ≤ length buf.old }
-    ensures { Put result buf.new buf.old 0 (reply_packet h (reply_map s.now reply)) }
+    ensures { Starts buf.old (reply_packet h (reply_map s.now reply)) result buf.new }
 {
-    let end = put_map(buf, s, reply);
-    put_reply_header(h, buf, end);
+    let mut out = Writer { buf, at: 8 };
+    put_map(&mut out, s, reply);
+    let end = out.at;
+    put_reply_header(h, out.buf, end);
     end
 }
 
@@ -206,12 +163,9 @@ fn put_reply(h: Header, s: &[u8], reply: Reply, buf: &mut [u8]) -> usize
 pub fn put_too_long(h: Header, buf: &mut [u8]) -> usize
     requires in_bounds { 32 ≤ length buf.old }
     requires op_bound { h.op < 255 }
-    ensures { Put result buf.new buf.old 0 (reply_packet h (rc_map (rc_of_def Reason.ReplyTooLong))) }
+    ensures { Starts buf.old (reply_packet h (rc_map (rc_of_def Reason.ReplyTooLong))) result buf.new }
 {
-    let rc = reason::rc(Reason::ReplyTooLong);
-    let end = put_rc(buf, rc);
-    put_reply_header(h, buf, end);
-    end
+    put_reply(h, &[], Reply::Refused(Reason::ReplyTooLong), buf)
 }
 
 // Whether a reply to the request s fits into this many bytes, at least 32: only an echo's can be too long.
@@ -221,10 +175,8 @@ fn fits_in(s: &[u8], reply: Reply, room: usize) -> bool
     ensures { result ≡ not (ltb room (8 + length (reply_map s.now reply))) }
 {
     match reply {
-        Reply::Refused(_why) => true,
-        Reply::Done => true,
-        Reply::Placed(_n) => true,
-        Reply::Text { start: _, len } => 11 + cbor::head_len(len as u64) + len <= room,
+        Reply::Text(text) => 11 + cbor::head_len(text.len as u64) + text.len <= room,
+        _ => true,
     }
 }
 
@@ -235,8 +187,7 @@ pub fn write_reply(h: Header, s: &[u8], reply: Reply, buf: &mut [u8]) -> usize
     requires sayable { Sayable s.now reply }
     ensures { Written h (reply_map s.now reply) buf.old result buf.new }
 {
-    let fits = fits_in(s, reply, buf.len());
-    if !fits {
+    if !fits_in(s, reply, buf.len()) {
         return put_too_long(h, buf);
     }
     put_reply(h, s, reply, buf)

@@ -1,10 +1,9 @@
 -- The starred cases: each row has what the definitions give and what the paper says, as lists of numbers.
 -- Assumes nothing.
-use Rattle.std.specs.Prelude.{ℕ, ◌-◌, Bool, true, false, List, [], ◌∷◌, length, replicate, take}
-use Rattle.laws.specs.declared.Number.{Number}
-use Rattle.laws.specs.declared.Run.{Run}
+use Rattle.std.specs.Prelude.{ℕ, ◌-◌, Bool, true, false, List, [], ◌∷◌, length, replicate, take, Option, Some, None, Result, Ok, Err}
 use Rattle.laws.specs.Choice.{both}
 use Rattle.laws.specs.Bytes.{same}
+use Rattle.reason.specs.declared.Reason.{Reason}
 use Rattle.reason.specs.Rc.{rc_of_def}
 use Rattle.sender.specs.Sender.{frame_count_def, frame_of}
 use Rattle.session.specs.declared.Slot.{Slot}
@@ -50,20 +49,20 @@ abbrev pub open_at8 : State
 open_at8 = state_of [] no_tag (record { running = true; length = 16; place = 8; tagged = false })
 
 -- an upload request with an offset, so many data bytes and a length or none
-abbrev pub uploading : ℕ → ℕ → Number → Upload
+abbrev pub uploading : ℕ → ℕ → Option ℕ → Upload
 uploading off size length =
-    record { off = off; start = 0; size = size; length = length; image = Number.Absent; sha = Run.Absent; upgrade = false }
+    record { off = off; «data» = record { start = 0; len = size }; length = length; image = None; sha = None; upgrade = false }
 
 -- what an upload request comes to, as numbers: 0 and the rc, 1 and the offset that is told, 2 for data that is written, 3 and the length of
 -- a session that starts
 unfoldable pub planned : State → Upload → List ℕ
 planned st u = numbers (plan_of slot4096 st [] u)
   where
-    numbers : Plan → List ℕ
-    numbers (Plan.Refuse why) = 0 ∷ rc_of_def why ∷ []
-    numbers (Plan.Tell n) = 1 ∷ n ∷ []
-    numbers Plan.Append = 2 ∷ []
-    numbers (Plan.Start l) = 3 ∷ l ∷ []
+    numbers : Result Plan Reason → List ℕ
+    numbers (Err why) = 0 ∷ rc_of_def why ∷ []
+    numbers (Ok (Plan.Tell n)) = 1 ∷ n ∷ []
+    numbers (Ok Plan.Append) = 2 ∷ []
+    numbers (Ok (Plan.Start l)) = 3 ∷ l ∷ []
 
 -- an empty slot 0 and an upload slot of one byte
 abbrev pub one_byte : Layout
@@ -95,11 +94,11 @@ starred =
       given = later_map (0x01 ∷ []) 512;
       wanted = 0xA2 ∷ 0x64 ∷ 0x64 ∷ 0x61 ∷ 0x74 ∷ 0x61 ∷ 0x41 ∷ 0x01 ∷ 0x63 ∷ 0x6F ∷ 0x66 ∷ 0x66 ∷ 0x19 ∷ 0x02 ∷ 0x00 ∷ [];
     }
-    ∷ record { given = planned no_session (uploading 0 1 (Number.Is 4096)); wanted = 3 ∷ 4096 ∷ [] }
-    ∷ record { given = planned no_session (uploading 0 1 (Number.Is 4097)); wanted = 0 ∷ 2 ∷ [] }
-    ∷ record { given = planned open_at8 (uploading 8 8 Number.Absent); wanted = 2 ∷ [] }
-    ∷ record { given = planned open_at8 (uploading 8 9 Number.Absent); wanted = 0 ∷ 3 ∷ [] }
-    ∷ record { given = planned no_session (uploading 5 1 Number.Absent); wanted = 1 ∷ 0 ∷ [] }
+    ∷ record { given = planned no_session (uploading 0 1 (Some 4096)); wanted = 3 ∷ 4096 ∷ [] }
+    ∷ record { given = planned no_session (uploading 0 1 (Some 4097)); wanted = 0 ∷ 2 ∷ [] }
+    ∷ record { given = planned open_at8 (uploading 8 8 None); wanted = 2 ∷ [] }
+    ∷ record { given = planned open_at8 (uploading 8 9 None); wanted = 0 ∷ 3 ∷ [] }
+    ∷ record { given = planned no_session (uploading 5 1 None); wanted = 1 ∷ 0 ∷ [] }
     ∷ []
 
 -- every row gives what is wanted

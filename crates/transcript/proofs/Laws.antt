@@ -1,6 +1,6 @@
 -- The text: each line's cases and how long it is, the next line and what is left to write after it, and what is said of the whole.
 -- Assumes nothing.
-use mathlib.Core.Path.{◌≡◌, sym, ap, ap₂, ◌∙◌}
+use mathlib.Core.Path.{◌≡◌, ap, ap₂, ◌∙◌}
 use mathlib.Core.Bool.{true, false}
 use mathlib.Core.List.{List, [], ◌∷◌, ◌++◌, append_assoc}
 use Prim.Native.Nat.{ℕ, suc, ◌+◌, ◌-◌, ◌/◌, ◌≤◌, ◌<◌}
@@ -9,10 +9,9 @@ use native.Mathlib.Omega.{arith}
 use lib.Dec.{eqb}
 use borrow.Author.Tests.{le-ltb, lt-ltb}
 use lib.ListN.{length, length-append}
-use Rattle.laws.specs.Bytes.{pasted}
 use Rattle.laws.proofs.Choice.{pick_yes, pick_no}
-use Rattle.laws.proofs.Lists.{pasted_twice}
-use Rattle.cbor.specs.Inner.{Put}
+use Rattle.writer.specs.declared.Writer.{Writer}
+use Rattle.writer.specs.Writer.{Wrote}
 use Rattle.decimal.specs.Decimal.{digit_count_def}
 use Rattle.decimal.proofs.Laws.{digits_length}
 use Rattle.session.specs.declared.Session.{Session}
@@ -58,11 +57,6 @@ ended_length n b = simp (length-append, digits_length)
 pub line_length : (k refusal replied rc : ℕ) → length (line_text k refusal replied rc)
     ≡ digit_count_def 19 k + digit_count_def 19 refusal + 2 + length (rc_text replied rc)
 line_length k refusal replied rc = simp (length-append, digits_length) (omega arith)
-
--- a line in the parts that its writer writes
-pub line_parts : (k refusal replied rc : ℕ) → line_text k refusal replied rc
-    ≡ ((wide k ++ (0x20 ∷ [])) ++ (wide refusal ++ (0x20 ∷ []))) ++ rc_text replied rc
-line_parts k refusal replied rc = sym (append_assoc (wide k ++ (0x20 ∷ [])) (wide refusal ++ (0x20 ∷ [])) (rc_text replied rc))
 
 -- no line is left
 pub lines_none : (answers : List ℕ) (count k : ℕ) → count ≤ k → lines_from answers (count - k) k ≡ []
@@ -114,26 +108,11 @@ pub rest_none : (answers : List ℕ) (count : ℕ) (s : Session) (k : ℕ) → c
 rest_none answers count s k h = rw (lines_none answers count k h)
 
 -- before it the next line, and what is left after it
-rest_turn : (answers : List ℕ) (count : ℕ) (s : Session) (k : ℕ) → k < count → rest_from answers count s k
+pub rest_turn : (answers : List ℕ) (count : ℕ) (s : Session) (k : ℕ) → k < count → rest_from answers count s k
     ≡ line_of answers k ++ rest_from answers count s (k + 1)
 rest_turn answers count s k h =
     ap (λ (l : List ℕ). l ++ end_text s) (lines_turn answers count k h)
     ∙ append_assoc (line_of answers k) (lines_from answers (count - (k + 1)) (k + 1)) (end_text s)
-
--- so the text's length is that of the line and of what is left after it
-pub rest_length : (answers : List ℕ) (count : ℕ) (s : Session) (k : ℕ) → k < count → length (rest_from answers count s k)
-    ≡ length (line_of answers k) + length (rest_from answers count s (k + 1))
-rest_length answers count s k h = ap (λ (l : List ℕ). length l) (rest_turn answers count s k h) ∙ length-append (line_of answers k) (rest_from answers count s (k + 1))
-
--- the line is written, and with what is left after it the output is as it would have been
-pub rest_written : (answers : List ℕ) (count : ℕ) (s : Session) (k : ℕ) {m l : List ℕ} {at r : ℕ} → k < count
-    → at + length (line_of answers k) ≤ length m
-    → Put r l m at (line_of answers k)
-    → pasted l r (rest_from answers count s (k + 1)) ≡ pasted m at (rest_from answers count s k)
-rest_written answers count s k {m} {l} {at} {r} h room p =
-    ap₂ (λ (l : List ℕ) (r : ℕ). pasted l r (rest_from answers count s (k + 1))) p.written p.place
-    ∙ pasted_twice m at (line_of answers k) (rest_from answers count s (k + 1)) room
-    ∙ ap (λ (l : List ℕ). pasted m at l) (sym (rest_turn answers count s k h))
 
 -- answers that are fewer than was said are refused
 pub written_few : (answers : List ℕ) (count : ℕ) (s : Session) (out : List ℕ) → length answers / 4 < count
@@ -148,12 +127,14 @@ pub written_long : (answers : List ℕ) (count : ℕ) (s : Session) (out : List 
 unfolding written
 written_long answers count s out all long = simp (le-ltb _ _ all, lt-ltb _ _ long, pick_yes, pick_no)
 
--- another is written to the output's start
-pub written_whole : (answers : List ℕ) (count : ℕ) (s : Session) {out l : List ℕ} {r : ℕ} → count ≤ length answers / 4
-    → length (transcript answers count s) ≤ length out
-    → Put r l out 0 (transcript answers count s)
-    → record { says = text r; out = l } ≡ written answers count s out
+-- another is written to the output's start, whichever way it comes back
+pub written_whole : (answers : List ℕ) (count : ℕ) (s : Session) {a b : Writer} {l : List ℕ} → count ≤ length answers / 4
+    → length (transcript answers count s) ≤ length a.buf.now
+    → a.at ≡ 0
+    → Wrote a b (transcript answers count s)
+    → l ≡ b.buf.now
+    → record { says = text b.at; out = l } ≡ written answers count s a.buf.now
 unfolding written
-written_whole answers count s all fits p =
+written_whole answers count s {a} {b} {l} all fits start w back =
     simp (le-ltb _ _ all, le-ltb _ _ fits, pick_no)
-    (ap₂ (λ (n : ℕ) (l : List ℕ). record { says = text n; out = l }) (p.place ∙ zero-add _) p.written)
+    (ap₂ (λ (n : ℕ) (l : List ℕ). record { says = text n; out = l }) (rw start at w.place ∙ zero-add _) (back ∙ rw start at w.written))

@@ -1,13 +1,13 @@
 -- The text of a replay: "a line per 3E record: its number (from 0, among 3E records), the refusal or 0, the reply's rc or `-`; then `end` and n, or
 -- `end none`."
 -- Assumes nothing.
-use Rattle.std.specs.Prelude.{ℕ, zero, suc, ◌+◌, ◌*◌, ◌/◌, List, [], ◌∷◌, ◌++◌, ltb, eqb, length, get_or}
+use Rattle.std.specs.Prelude.{ℕ, zero, suc, ◌+◌, ◌*◌, ◌/◌, List, [], ◌∷◌, ◌++◌, ltb, eqb, length, get_or, Result, Ok, Err}
 use Rattle.laws.specs.Choice.{pick}
 use Rattle.laws.specs.Bytes.{pasted}
+use Rattle.refusal.specs.declared.Refusal.{Refusal}
 use Rattle.refusal.specs.Number.{number_of}
 use Rattle.decimal.specs.Decimal.{decimal}
 use Rattle.session.specs.declared.Session.{Session}
-use Rattle.transcript.specs.declared.Text.{Text}
 
 -- a number of 64 bits in decimal, which has at most 20 digits
 abbrev pub wide : ℕ → List ℕ
@@ -52,9 +52,9 @@ pub data Said : Type 0 where
   refused : ℕ → Said
 
 -- each answer's meaning
-abbrev pub said : Text → Said
-said (Text.Is n) = text n
-said (Text.Refused r) = refused (number_of r)
+abbrev pub said : Result ℕ Refusal → Said
+said (Ok n) = text n
+said (Err r) = refused (number_of r)
 
 -- all that the call leaves: what it said, and the output
 pub record Outcome : Type 0 where

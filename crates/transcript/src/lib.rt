@@ -1,12 +1,14 @@
 // The text of a replay: a line for each answer, and the session at the end.
 #![tactic(auto)]
 
-ghost use Rattle.std.specs.Prelude.{◌≡◌, ◌+◌, ◌*◌, ◌≤◌, ◌<◌, leb, length};
-ghost use Rattle.cbor.specs.Inner.{Put};
+ghost use Rattle.std.specs.Prelude.{◌≡◌, ◌+◌, ◌*◌, ◌≤◌, leb, length};
+ghost use Rattle.writer.specs.Writer.{HasRoom, Wrote};
 ghost use Rattle.transcript.specs.Transcript.{rc_text, line_text, end_text, transcript, said, written};
+ghost use Rattle.transcript.specs.Inner.{printed_at};
 
 use refusal::Refusal;
 use session::Session;
+use writer::Writer;
 
 // How many numbers an answer has: the refusal or 0, whether there is a reply, its return code, and a place, which the text leaves out.
 pub const NUMBERS: usize = 4;
@@ -14,57 +16,76 @@ pub const NUMBERS: usize = 4;
 // The most digits of a number of 64 bits after its first.
 const MORE: usize = 19;
 
-// What writing the text gives.
+// The numbers of an answer that its line prints.
 #[derive(Clone, Copy)]
-pub enum Text {
-    // Its length: it stands at the output's start.
-    Is(usize),
-    // It was not written.
-    Refused(Refusal),
+struct Printed {
+    refusal: u32,
+    replied: u32,
+    rc: u32,
 }
 
-// How long the end of an answer's line is: the return code or '-', and 0A.
-fn rc_len(replied: u32, rc: u32) -> usize
-    ensures { (result ≡ length (rc_text replied rc)) × (result ≤ 21) }
-{
-    if replied == 0 {
-        return 2;
+impl Printed {
+    // Those of answer k.
+    fn at(answers: &[u32], k: usize) -> Printed
+        requires { 4 * (k + 1) ≤ length answers.now }
+        ensures { result ≡ printed_at answers.now k }
+    {
+        let from = NUMBERS * k;
+        Printed {
+            refusal: answers[from],
+            replied: answers[from + 1],
+            rc: answers[from + 2],
+        }
     }
-    decimal::digit_count(MORE, rc as usize) + 1
-}
 
-// Writes the end of an answer's line into out from place at on, and gives the place after it.
-fn put_rc(out: &mut [u8], at: usize, replied: u32, rc: u32) -> usize
-    requires { at + length (rc_text replied rc) ≤ length out.old }
-    ensures { Put result out.new out.old at (rc_text replied rc) }
-{
-    if replied == 0 {
-        laws::put(out, at, b"-\n");
-        return at + 2;
+    // How long the end of the line is: the return code or '-', and 0A.
+    #[tactic(auto, using(laws::proofs::Tests::tests, crate::proofs::Laws::ended_length), unfolding(crate::specs::Transcript::rc_text))]
+    fn rc_len(self) -> usize
+        ensures { (result ≡ length (rc_text self.replied self.rc)) × (result ≤ 21) }
+    {
+        if self.replied == 0 {
+            return 2;
+        }
+        decimal::digit_count(MORE, self.rc as usize) + 1
     }
-    decimal::put_ended(out, at, MORE, rc as usize, 0x0A)
-}
 
-// How long an answer's line is.
-fn line_len(k: usize, refusal: u32, replied: u32, rc: u32) -> usize
-    ensures { (result ≡ length (line_text k refusal replied rc)) × (result ≤ 63) }
-{
-    let first = decimal::digit_count(MORE, k);
-    let second = decimal::digit_count(MORE, refusal as usize);
-    first + second + 2 + rc_len(replied, rc)
-}
+    // Writes the end of the line.
+    #[tactic(auto, using(laws::proofs::Tests::tests), unfolding(crate::specs::Transcript::rc_text))]
+    fn put_rc(self, out: &mut Writer)
+        requires { HasRoom out.old (rc_text self.replied self.rc) }
+        ensures { Wrote out.old out.new (rc_text self.replied self.rc) }
+    {
+        if self.replied == 0 {
+            out.bytes(b"-\n");
+        } else {
+            decimal::put_ended(out, MORE, self.rc as usize, b'\n');
+        }
+    }
 
-// Writes an answer's line into out from place at on, and gives the place after it.
-fn put_line(out: &mut [u8], at: usize, k: usize, refusal: u32, replied: u32, rc: u32) -> usize
-    requires { at + length (line_text k refusal replied rc) ≤ length out.old }
-    ensures { Put result out.new out.old at (line_text k refusal replied rc) }
-{
-    let second = decimal::put_ended(out, at, MORE, k, 0x20);
-    let third = decimal::put_ended(out, second, MORE, refusal as usize, 0x20);
-    put_rc(out, third, replied, rc)
+    // How long the line of number k is.
+    #[tactic(auto, using(crate::proofs::Laws::line_length))]
+    fn line_len(self, k: usize) -> usize
+        ensures { (result ≡ length (line_text k self.refusal self.replied self.rc)) × (result ≤ 63) }
+    {
+        let first = decimal::digit_count(MORE, k);
+        let second = decimal::digit_count(MORE, self.refusal as usize);
+        first + second + 2 + self.rc_len()
+    }
+
+    // Writes the line of number k.
+    #[tactic(auto, using(writer::proofs::Steps::room_first, smp::proofs::Writing::second_room, smp::proofs::Writing::third_room))]
+    fn put_line(self, out: &mut Writer, k: usize)
+        requires { HasRoom out.old (line_text k self.refusal self.replied self.rc) }
+        ensures { Wrote out.old out.new (line_text k self.refusal self.replied self.rc) }
+    {
+        decimal::put_ended(out, MORE, k, b' ');
+        decimal::put_ended(out, MORE, self.refusal as usize, b' ');
+        self.put_rc(out);
+    }
 }
 
 // How long the last line is.
+#[tactic(auto, using(laws::proofs::Tests::tests, crate::proofs::Laws::ended_length), unfolding(crate::specs::Transcript::end_text))]
 fn end_len(session: Session) -> usize
     ensures { (result ≡ length (end_text session)) × (result ≤ 25) }
 {
@@ -74,20 +95,22 @@ fn end_len(session: Session) -> usize
     9
 }
 
-// Writes the last line into out from place at on, and gives the place after it.
-fn put_end(out: &mut [u8], at: usize, session: Session) -> usize
-    requires { at + length (end_text session) ≤ length out.old }
-    ensures { Put result out.new out.old at (end_text session) }
+// Writes the last line.
+#[tactic(auto, using(laws::proofs::Tests::tests), unfolding(crate::specs::Transcript::end_text))]
+fn put_end(out: &mut Writer, session: Session)
+    requires { HasRoom out.old (end_text session) }
+    ensures { Wrote out.old out.new (end_text session) }
 {
     if session.running {
-        laws::put(out, at, b"end ");
-        return decimal::put_ended(out, at + 4, MORE, session.place, 0x0A);
+        out.bytes(b"end ");
+        decimal::put_ended(out, MORE, session.place, b'\n');
+    } else {
+        out.bytes(b"end none\n");
     }
-    laws::put(out, at, b"end none\n");
-    at + 9
 }
 
 // Whether the text of so many answers fits into this much room.
+#[tactic(auto, using(laws::proofs::Tests::tests, crate::proofs::Laws::lines_length, crate::proofs::Laws::lines_none, crate::proofs::Laws::text_length_lem))]
 fn fits(answers: &[u32], count: usize, session: Session, room: usize) -> bool
     requires { 4 * count ≤ length answers.now }
     ensures { result ≡ leb (length (transcript answers.now count session)) room }
@@ -97,52 +120,42 @@ fn fits(answers: &[u32], count: usize, session: Session, room: usize) -> bool
         return false;
     }
     let mut left = room - last;
-    let mut k = 0;
-    while k < count {
-        let at = NUMBERS * k;
-        let len = line_len(k, answers[at], answers[at + 1], answers[at + 2]);
+    for k in 0..count {
+        let len = Printed::at(answers, k).line_len(k);
         if left < len {
             return false;
         }
         left -= len;
-        k += 1;
     }
     true
 }
 
-// Writes the text of so many answers, which fits, to the start of out, and gives its length.
-fn put_all(answers: &[u32], count: usize, session: Session, out: &mut [u8]) -> usize
+// Writes the text of so many answers, which fits.
+fn put_all(answers: &[u32], count: usize, session: Session, out: &mut Writer)
     requires count_in_bounds { 4 * count ≤ length answers.now }
-    requires session_in_bounds { length (transcript answers.now count session) ≤ length out.old }
-    ensures { Put result out.new out.old 0 (transcript answers.now count session) }
+    requires has_room { HasRoom out.old (transcript answers.now count session) }
+    ensures { Wrote out.old out.new (transcript answers.now count session) }
 {
-    let mut at = 0;
-    let mut k = 0;
-    while k < count {
-        let from = NUMBERS * k;
-        at = put_line(
-            out,
-            at,
-            k,
-            answers[from],
-            answers[from + 1],
-            answers[from + 2],
-        );
-        k += 1;
+    for k in 0..count {
+        Printed::at(answers, k).put_line(out, k);
     }
-    put_end(out, at, session)
+    put_end(out, session);
 }
 
-// Writes the text of a replay to the start of out: a line for each of the first `count` answers, and the session at the end. Refusal 12, and nothing
-// is written, where the answers are fewer or out is shorter than the text.
-pub fn write_transcript(answers: &[u32], count: usize, session: Session, out: &mut [u8]) -> Text
+// Writes the text of a replay to the start of out, and gives its length: a line for each of the first `count` answers, and the session at the end.
+// Refusal 12, and nothing is written, where the answers are fewer or out is shorter than the text.
+pub fn write_transcript(
+    answers: &[u32],
+    count: usize,
+    session: Session,
+    out: &mut [u8],
+) -> Result<usize, Refusal>
     ensures { record { says = said result; out = out.new } ≡ written answers.now count session out.old }
 {
-    if answers.len() / NUMBERS < count {
-        return Text::Refused(Refusal::Unsendable);
+    if answers.len() / NUMBERS < count || !fits(answers, count, session, out.len()) {
+        return Err(Refusal::Unsendable);
     }
-    if !fits(answers, count, session, out.len()) {
-        return Text::Refused(Refusal::Unsendable);
-    }
-    Text::Is(put_all(answers, count, session, out))
+    let mut text = Writer { buf: out, at: 0 };
+    put_all(answers, count, session, &mut text);
+    Ok(text.at)
 }

@@ -1,12 +1,12 @@
 -- The maps of uploads: each in the parts that its writer writes, how long each is, and how long a tag can be.
 -- Assumes nothing.
-use mathlib.Core.Path.{◌≡◌, sym, ap, ap₂, ◌∙◌}
+use mathlib.Core.Path.{◌≡◌, sym, ap, ◌∙◌}
 use mathlib.Core.Bool.{false, false≢true}
 use mathlib.Core.List.{List, ◌++◌, append_assoc}
 use Prim.Native.Nat.{ℕ, suc, ◌+◌, ◌<◌}
 use native.Mathlib.Decide.{dec_le}
 use native.Mathlib.Omega.{arith}
-use lib.Dec.{lit<}
+use lib.Dec.{eqb, lit<}
 use borrow.Author.Tests.{eq-eqb, ne_eqb}
 use lib.ListN.{length, length-append}
 use Rattle.laws.proofs.Choice.{pick_yes, pick_no, both_yes}
@@ -17,16 +17,18 @@ use Rattle.smp.proofs.Writing.{head_tiny}
 use Rattle.uploads.specs.Upload.{later_map, first_map, odd_length, mis_sized_def}
 use Rattle.uploads.specs.Inner.{first_pairs}
 
+-- a tag that is said to be there is not of no bytes
+pub tag_there : (tag : List ℕ) → eqb (length tag) 0 ≡ false → length tag ≡ 0 → ⊥
+tag_there tag e z = false≢true (sym e ∙ eq-eqb (length tag) 0 z)
+
 -- an argument from 24 to 255 has a head of two bytes
 head_small : (m n : ℕ) → 23 < n → n < 256 → length (head_of m n) ≡ 2
 head_small m n h k = head_size m n ∙ ap suc (form_one n (omega arith) k).1
 
 -- the map of an upload past offset 0 in the parts that its writer writes
-pub later_parts : (x : List ℕ) (off : ℕ) → later_map x off ≡ (map_of 2 ++ (text_of name_data ++ bytes_of x)) ++ (text_of name_off ++ unsigned off)
+pub later_parts : (x : List ℕ) (off : ℕ) → later_map x off ≡ map_of 2 ++ ((text_of name_data ++ bytes_of x) ++ (text_of name_off ++ unsigned off))
 unfolding later_map
-later_parts x off =
-    ap (λ (l : List ℕ). map_of 2 ++ l) (sym (append_assoc (text_of name_data) (bytes_of x) (text_of name_off ++ unsigned off)))
-    ∙ sym (append_assoc (map_of 2) (text_of name_data ++ bytes_of x) (text_of name_off ++ unsigned off))
+later_parts x off = ap (λ (l : List ℕ). map_of 2 ++ l) (sym (append_assoc (text_of name_data) (bytes_of x) (text_of name_off ++ unsigned off)))
 
 -- the pairs of an upload at offset 0, one by one, before what follows them
 pairs_flat : (x : List ℕ) (size : ℕ) (post : List ℕ) → text_of name_data ++
@@ -44,13 +46,12 @@ unfolding first_map
 first_untagged x size tag e = rw (eq-eqb (length tag) 0 e, pick_yes) (ap (λ (l : List ℕ). map_of 3 ++ l) (pairs_last x size))
 
 -- so the one with a tag
-pub first_tagged : (x : List ℕ) (size : ℕ) (tag : List ℕ) → (length tag ≡ 0 → ⊥) → first_map x size tag ≡ (map_of 4 ++ first_pairs x size) ++
-    (text_of name_sha ++ bytes_of tag)
+pub first_tagged : (x : List ℕ) (size : ℕ) (tag : List ℕ) → (length tag ≡ 0 → ⊥) → first_map x size tag ≡ map_of 4 ++ (first_pairs x size ++
+    (text_of name_sha ++ bytes_of tag))
 unfolding first_map
 first_tagged x size tag e =
     rw (ne_eqb (length tag) 0 e, pick_no)
-    (ap (λ (l : List ℕ). map_of 4 ++ l) (pairs_flat x size (text_of name_sha ++ bytes_of tag))
-    ∙ sym (append_assoc (map_of 4) (first_pairs x size) (text_of name_sha ++ bytes_of tag)))
+    (ap (λ (l : List ℕ). map_of 4 ++ l) (pairs_flat x size (text_of name_sha ++ bytes_of tag)))
 
 -- how long the map of an upload past offset 0 is
 pub later_length : (x : List ℕ) (off : ℕ) → length (later_map x off) ≡ 10 + length (head_of 0 (length x)) + length x + length (head_of 0 off)
@@ -77,11 +78,11 @@ first_length_tagged x size tag e =
     tag-length : length (text_of name_sha ++ bytes_of tag) ≡ 38
     tag-length = simp (length-append, e) (omega (arith, head_tiny 3 3 (lit< tt), head_small 2 32 (lit< tt) (lit< tt)))
 
-    sizes : length ((map_of 4 ++ first_pairs x size) ++ (text_of name_sha ++ bytes_of tag)) ≡ 53 + length (head_of 0 (length x)) + length x + length (head_of 0 size)
+    sizes : length (map_of 4 ++ (first_pairs x size ++ (text_of name_sha ++ bytes_of tag))) ≡ 53 + length (head_of 0 (length x)) + length x + length (head_of 0 size)
     sizes =
-        length-append (map_of 4 ++ first_pairs x size) (text_of name_sha ++ bytes_of tag)
-        ∙ ap₂ (λ (a b : ℕ). a + b) (length-append (map_of 4) (first_pairs x size)) tag-length
-        ∙ omega (arith, head_tiny 5 4 (lit< tt), pairs_length x size)
+        length-append (map_of 4) (first_pairs x size ++ (text_of name_sha ++ bytes_of tag))
+        ∙ ap (λ (n : ℕ). length (map_of 4) + n) (length-append (first_pairs x size) (text_of name_sha ++ bytes_of tag))
+        ∙ omega (arith, head_tiny 5 4 (lit< tt), pairs_length x size, tag-length)
 
 -- a tag of the right size that is not absent is of 32 bytes
 pub tag_size : (tag : List ℕ) → mis_sized_def tag ≡ false → (length tag ≡ 0 → ⊥) → length tag ≡ 32

@@ -4,7 +4,6 @@
 
 ghost use Rattle.std.specs.Prelude.{◌≤◌, length};
 
-use decoder::Decoded;
 use std::io;
 use std::io::Write;
 
@@ -38,14 +37,14 @@ fn bytes_of<W: Write>(out: &mut W, text: &[u8]) -> io::Result<()>
 {
     let mut raw = [0u8; 9];
     match decoder::decode(text, &mut raw) {
-        Decoded::Bytes(n) => {
+        Some(n) => {
             if n <= 9 {
                 out.write_all(b" back ")?;
                 out.write_all(&raw[..n])?;
             }
             Ok(())
         }
-        Decoded::Bad => out.write_all(b" not well formed"),
+        None => out.write_all(b" not well formed"),
     }
 }
 

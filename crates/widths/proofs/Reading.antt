@@ -5,7 +5,7 @@ use mathlib.Core.Bool.{true}
 use mathlib.Core.List.{List}
 use Prim.Native.Nat.{ℕ, ◌+◌, ◌≤◌, ◌<◌}
 use native.Mathlib.Omega.{arith}
-use lib.Dec.{leb, eqb, lit<}
+use lib.Dec.{leb, eqb}
 use lib.ListN.{length, get_or, drop}
 use borrow.Author.Tests.{leb-true, eqb-true}
 use Rattle.laws.specs.declared.Run.{Run}
@@ -14,10 +14,11 @@ use Rattle.laws.specs.Parts.{Within}
 use Rattle.laws.proofs.Choice.{both_true}
 use Rattle.fields.specs.declared.Kind.{Kind}
 use Rattle.fields.specs.declared.Key.{Key}
-use Rattle.fields.specs.Fields.{index_of, number_in_def, run_in_def}
+use Rattle.fields.specs.Fields.{number_in_def, run_in_def}
 use Rattle.map.proofs.Sound.{map_run}
 use Rattle.smp.specs.Packet.{sized}
-use Rattle.smp.proofs.Headers.{two_bytes}
+use Rattle.laws.proofs.Lists.{two_bytes}
+use Rattle.std.specs.Prelude.{Option, Some, None}
 use Rattle.replies.specs.declared.Reply.{Reply}
 use Rattle.replies.specs.Read.{reply, is_reply_def, read_reply_def}
 use Rattle.replies.proofs.Case.{zero_small, read_case}
@@ -25,10 +26,10 @@ use Rattle.records.specs.Records.{run_start_def, run_length_def}
 use Rattle.records.specs.Inner.{ReplySmall}
 
 -- a text that lies within the packet ends inside it
-pub run_inside : (s : List ℕ) (x : Run) → Within s x → run_start_def x + run_length_def x ≤ length s
+pub run_inside : (s : List ℕ) (x : Option Run) → Within s x → run_start_def x + run_length_def x ≤ length s
 unfolding run_start_def run_length_def
-run_inside s Run.Absent o = omega arith
-run_inside s (Run.At start len) o = o
+run_inside s None o = omega arith
+run_inside s (Some r) o = o
 
 -- a reply is as long as its header says, and has at most 65,533 bytes
 reply_sized : (s : List ℕ) → is_reply_def s ≡ true → (length s ≡ 8 + of_be16 (drop 2 s)) × (length s ≤ 65533)
@@ -41,12 +42,11 @@ reply_sized s e =
 
 -- each reply that is read is small, whose group is of two bytes
 pub reply_small : (s : List ℕ) → get_or s 4 0 < 256 → get_or s 5 0 < 256 → (r : Reply) → read_reply_def s ≡ reply r → ReplySmall r
-unfolding index_of
 reply_small s high low =
     read_case ReplySmall s
     (λ f e m g h.
     let z = reply_sized s e in
-    let inside = run_inside s (run_in_def f Key.Text) (map_run Kind.Reply s 8 f m Key.Text (lit< tt)) in
+    let inside = run_inside s (run_in_def f Key.Text) (map_run Kind.Reply s 8 f m Key.Text) in
     record {
       length = omega (arith, z.0, z.1);
       group = omega (arith, two_bytes s 4);

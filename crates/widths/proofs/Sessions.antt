@@ -20,7 +20,9 @@ use Rattle.slot.specs.History.{Fit}
 use Rattle.session.proofs.Laws.{region_bounds, layout_bounds}
 use Rattle.smp.specs.declared.Header.{Header}
 use Rattle.smp.specs.declared.Reply.{Reply}
-use Rattle.requests.specs.declared.Reading.{Reading}
+use Rattle.std.specs.Prelude.{Option, Some, None, Result}
+use Rattle.requests.specs.declared.Request.{Request}
+use Rattle.reason.specs.declared.Reason.{Reason}
 use Rattle.smp.specs.Packet.{header_in_def}
 use Rattle.requests.specs.Request.{read_request_def}
 use Rattle.smp.specs.Reply.{rc_map, reply_map, reply_packet, reply_bytes}
@@ -90,8 +92,8 @@ bytes_small layout h m p x room s =
     meant (Response.Reply (Reply.Refused why)) s = omega (arith, packet_length h (rc_map (rc_of_def why)), rc_map_lem (rc_of_def why), head_nine 0 (rc_of_def why))
     meant (Response.Reply Reply.Done) s = omega (arith, rc_length h 0 (lit< tt))
     meant (Response.Reply (Reply.Placed n)) s = omega (arith, placed_length h p n s)
-    meant (Response.Reply (Reply.Text start len)) s =
-        omega (arith, packet_length h (reply_map p (Reply.Text start len)), text_map p start len s.0, head_nine 0 len, s.0, s.1)
+    meant (Response.Reply (Reply.Text r)) s =
+        omega (arith, packet_length h (reply_map p (Reply.Text r)), text_map p r s.0, head_nine 0 r.len, s.0, s.1)
     meant Response.Images s = omega (arith, packet_length h (list_map m layout), list_length m layout)
 
 -- what any call says is small
@@ -102,9 +104,9 @@ said_small layout st p b =
     pick_case small (not (possible layout st)) _ _ (λ e. tt)
     (λ e. pick_case small (ltb (length b) 32) _ _ (λ f. tt) (λ f. read (not-false (possible layout st) e) (read_request_def p) refl))
   where
-    read : possible layout st ≡ true → (t : Reading) → read_request_def p ≡ t → HandledSmall (handled layout st p b (asked t)).says
-    read h Reading.NotARequest e = tt
-    read h (Reading.Is r) e =
+    read : possible layout st ≡ true → (t : Option (Result Request Reason)) → read_request_def p ≡ t → HandledSmall (handled layout st p b (asked t)).says
+    read h None e = tt
+    read h (Some r) e =
         let slot = layout.slot1 in
         let after = done slot (act_for slot st p r) st in
         let oks = both_true (layout_ok layout (length st.memory)) (session_ok slot st.session) h in

@@ -6,15 +6,13 @@ use mathlib.Core.List.{List}
 use Prim.Native.Nat.{ℕ, ◌≤◌, ◌<◌}
 use native.Mathlib.Omega.{arith}
 use lib.Dec.{ltb, leb, eqb}
-use lib.ListN.{length, length-append}
+use lib.ListN.{length}
 use borrow.Author.Tests.{leb-true, ltb-true, ltb-false, not-false}
-use Rattle.laws.specs.Choice.{pick}
 use Rattle.laws.proofs.Choice.{pick_case, both_true}
-use Rattle.frame.specs.Line.{initial, partial, frame}
 use Rattle.sender.specs.Sender as sending
 use Rattle.sender.specs.Sender.{frame_count_def, piece_of, frame_of, sendable, send_frame_def}
 use Rattle.sender.proofs.Count.{count_most}
-use Rattle.sender.proofs.Laws.{piece_length, text_room}
+use Rattle.sender.proofs.Laws.{piece_length, line_room}
 use Rattle.host.specs.Write.{Outcome, packet, unsendable, put, write_echo_def, write_reset_def, write_erase_def}
 use Rattle.uploads.specs.Upload.{mis_sized_def, write_first_def, write_upload_def}
 
@@ -70,14 +68,10 @@ upload_small sequence x off size tag out =
 abbrev pub SentSmall : sending.Outcome → Type 0
 SentSmall o = (n count : ℕ) → o.says ≡ sending.is_frame n count → (n ≤ 127) × (count ≤ 705)
 
--- a marker is of two bytes
-marker_two : (k : ℕ) → length (pick (eqb k 0) initial partial) ≤ 2
-marker_two k = pick_case (λ (m : List ℕ). length m ≤ 2) (eqb k 0) initial partial (λ e. omega arith) (λ e. omega arith)
-
 -- a frame's line is of at most 127 bytes
 frame_small : (s : List ℕ) (k : ℕ) → k < frame_count_def (length s) → length (frame_of s k) ≤ 127
-unfolding frame_of frame
-frame_small s k h = simp length-append (omega (arith, marker_two k, text_room (piece_of s k) (piece_length s k h)))
+unfolding frame_of
+frame_small s k h = line_room k (piece_of s k) (piece_length s k h)
 
 -- so the sender's numbers are small
 pub sent_small : (s : List ℕ) (k : ℕ) (out : List ℕ) → SentSmall (send_frame_def s k out)

@@ -1,4 +1,4 @@
--- `crc::continued` meets its contract: the register continued over what is left of `s` is the register continued over all of it.
+-- `crc::continued`: a byte takes the register one step on, and where none is left it is the register after all of them.
 -- Assumes nothing.
 use mathlib.Core.Path.{sym, ap, ◌∙◌}
 use mathlib.Core.List.{List}
@@ -9,17 +9,14 @@ use Rattle.crc.specs.Crc.{onward}
 use Rattle.crc.proofs.Laws.{onward_none, onward_turn}
 use Rattle.crc.proofs.continued.Goals as goal
 
-pub loop-i-preserved : goal.loop-i-preserved
-loop-i-preserved c =
-    let l = c in
-    let s = l.args.s.now in (
-      ap (λ (r : ℕ). onward r (drop (l.loop-i.i + 1) s)) c.step-r.ensures ∙ onward_turn l.loop-i.r l.loop-i.i s (omega arith) ∙ l.loop-i.invariant.0,
-      omega arith,
-    )
+pub loop-b-preserved : goal.loop-b-preserved
+loop-b-preserved c =
+    let s = c.args.s.now in
+    let i = c.loop-b.b-index in
+    ap (λ (r : ℕ). onward r (drop (i + 1) s)) c.step-r.ensures ∙ onward_turn c.loop-b.r i s (omega arith) ∙ c.loop-b.invariant
 
 pub returns : goal.returns
 returns c =
-    let l = c in
-    sym (onward_none l.loop-i.r)
-    ∙ ap (λ (t : List ℕ). onward l.loop-i.r t) (sym (drop_of_length-le l.args.s.now c.loop-i-test.false))
-    ∙ l.loop-i.invariant.0
+    sym (onward_none c.loop-b.r)
+    ∙ ap (λ (t : List ℕ). onward c.loop-b.r t) (sym (drop_of_length-le c.args.s.now c.loop-b-test.false))
+    ∙ c.loop-b.invariant

@@ -1,23 +1,18 @@
 -- `decimal::put_decimal` meets its contract: as many digits are written as the number has.
 -- Assumes nothing.
-use mathlib.Core.Path.{ap, ◌∙◌}
-use Prim.Native.Nat.{ℕ}
-use native.Mathlib.Omega.{arith}
-use Rattle.laws.specs.Bytes.{pasted}
-use Rattle.decimal.specs.Decimal.{digits, digit_count_def}
-use Rattle.decimal.proofs.Laws.{digits_length}
+use Rattle.std.proofs.Common.{refl, arith}
+use Rattle.decimal.specs.Decimal.{digit_count_def}
+use Rattle.decimal.proofs.Laws.{digits_length, put_all}
 use Rattle.decimal.proofs.put_decimal.Goals as goal
 
-pub put_digits-requires : goal.put_digits-requires
-put_digits-requires c =
-    let a = c.args in
-    omega (arith, c.digit_count-w.ensures.0, digits_length (digit_count_def a.more a.n) a.n)
+pub overflow_add-next : goal.overflow_add-next
+overflow_add-next c = omega (arith, digits_length (digit_count_def c.args.more c.args.n) c.args.n)
+
+pub slice_bounds-put_digits-end : goal.slice_bounds-put_digits-end
+slice_bounds-put_digits-end c = omega (arith, digits_length (digit_count_def c.args.more c.args.n) c.args.n)
 
 pub returns : goal.returns
 returns c =
-    let a = c.args in
-    let count = c.digit_count-w.ensures.0 in
-    record {
-      place = omega (arith, count, digits_length (digit_count_def a.more a.n) a.n);
-      written = c.put_digits.ensures ∙ ap (λ (w : ℕ). pasted a.buf.now a.at (digits w a.n)) count;
-    }
+    let w = c.args.out.now in
+    let p = put_all w.buf.now c.put_digits.new.text w.at c.digit_count.result c.args.more c.args.n c.digit_count.ensures.0 c.requires c.put_digits.ensures in
+    record { same_buffer = refl; place = p.0; written = p.1 }

@@ -1,4 +1,4 @@
--- `fault::place` meets its contract. The loop's invariant: the place is i further than that of the text from i on. The measure is how much text is left.
+-- `fault::place`: the place is i further than that of the text from i on. The measure is how much text is left.
 -- Assumes nothing.
 use mathlib.Core.Path.{◌≡◌}
 use Prim.Native.Nat.{◌+◌, ◌-◌, ◌≤◌}

@@ -1,57 +1,26 @@
 -- `host::put_echo` meets its contract: the map's head and then its pair.
 -- Assumes nothing.
-use mathlib.Core.List.{List, ◌++◌}
-use Prim.Native.Nat.{ℕ, ◌+◌, ◌≤◌}
-use native.Mathlib.Omega.{arith}
+use mathlib.Core.List.{◌++◌}
 use lib.Dec.{lit<}
-use lib.ListN.{length}
 use Rattle.cbor.specs.Write.{text_of, map_of}
 use Rattle.fields.specs.Keys.{name_d}
-use Rattle.host.proofs.Writing.{echo_parts}
-use Rattle.smp.proofs.Writing.{put_then, room_first, room_rest}
+use Rattle.writer.proofs.Steps.{room_first}
+use Rattle.host.specs.Write.{echo_map}
+use Rattle.smp.proofs.Writing.{second_room, third_room, wrote_three}
 use Rattle.host.proofs.put_echo.Goals as goal
 
-pub put_head-first-requires : goal.put_head-first-requires
-put_head-first-requires c =
-    let a = c.args in
-    let x : List ℕ = map_of 1 in
-    let y : List ℕ = text_of name_d in
-    let z : List ℕ = text_of a.text.now in
-    let room : 8 + length ((x ++ y) ++ z) ≤ length a.buf.now = rw (echo_parts a.text.now) at c.requires in
-    let inner = room_first 8 (x ++ y) z room in
-    (lit< tt, room_first 8 x y inner)
-
-pub put_text-second-requires : goal.put_text-second-requires
-put_text-second-requires c =
-    let a = c.args in
-    let x : List ℕ = map_of 1 in
-    let y : List ℕ = text_of name_d in
-    let z : List ℕ = text_of a.text.now in
-    let room : 8 + length ((x ++ y) ++ z) ≤ length a.buf.now = rw (echo_parts a.text.now) at c.requires in
-    let inner = room_first 8 (x ++ y) z room in
-    omega (arith, room_rest 8 x y c.put_head-first.ensures.place inner)
+pub put_head-requires : goal.put_head-requires
+unfolding echo_map
+put_head-requires c = (lit< tt, room_first c.args.out.now (map_of 1) (text_of name_d ++ text_of c.args.text.now) c.requires)
 
 pub put_text-requires : goal.put_text-requires
-put_text-requires c =
-    let a = c.args in
-    let x : List ℕ = map_of 1 in
-    let y : List ℕ = text_of name_d in
-    let z : List ℕ = text_of a.text.now in
-    let room : 8 + length ((x ++ y) ++ z) ≤ length a.buf.now = rw (echo_parts a.text.now) at c.requires in
-    let inner = room_first 8 (x ++ y) z room in
-    let front = put_then (room_first 8 x y inner) c.put_head-first.ensures c.put_text-second.ensures in
-    omega (arith, room_rest 8 (x ++ y) z front.place room)
+unfolding echo_map
+put_text-requires c = second_room _ _ (map_of 1) (text_of name_d) (text_of c.args.text.now) c.requires c.put_head.ensures
+
+pub put_text-requires-2 : goal.put_text-requires-2
+unfolding echo_map
+put_text-requires-2 c = third_room _ _ (map_of 1) (text_of name_d) (text_of c.args.text.now) c.requires c.put_head.ensures _ c.put_text.ensures
 
 pub returns : goal.returns
-returns c =
-    let a = c.args in
-    let x : List ℕ = map_of 1 in
-    let y : List ℕ = text_of name_d in
-    let z : List ℕ = text_of a.text.now in
-    let room : 8 + length ((x ++ y) ++ z) ≤ length a.buf.now = rw (echo_parts a.text.now) at c.requires in
-    let inner = room_first 8 (x ++ y) z room in
-    let front =
-    put_then (room_first 8 x y inner)
-    c.put_head-first.ensures
-    c.put_text-second.ensures in
-    rw (echo_parts a.text.now) (put_then inner front c.put_text.ensures)
+unfolding echo_map
+returns c = wrote_three _ _ (map_of 1) (text_of name_d) (text_of c.args.text.now) c.requires c.put_head.ensures _ _ c.put_text.ensures c.put_text-2.ensures

@@ -3,6 +3,7 @@
 use mathlib.Core.Path.{sym, ◌∙◌}
 use native.Mathlib.Omega.{arith}
 use lib.ListN.{length}
+use Rattle.writer.proofs.Steps.{wrote_length}
 use Rattle.host.specs.Write.{echo_map, write_echo_def}
 use Rattle.host.proofs.Writing.{sendable_fits, request_sent, request_refused, head_most, echo_length}
 use Rattle.host.proofs.write_echo.Goals as goal
@@ -21,35 +22,22 @@ returns-then-not-is_sendable c =
     (omega (arith, echo_length a.text.now, c.head_len.ensures))
     (sym c.is_sendable.ensures ∙ c.if-not-is_sendable.true)
 
-pub put_echo-end-requires : goal.put_echo-end-requires
-unfolding write_echo_def
-put_echo-end-requires c =
-    let a = c.args in
-    omega (
-      arith,
-      echo_length a.text.now,
-      c.head_len.ensures,
-      sendable_fits _ _
-          (sym c.is_sendable.ensures ∙ c.if-not-is_sendable.false),
-    )
+pub put_echo-requires : goal.put_echo-requires
+put_echo-requires c =
+    let t = sendable_fits _ _ (sym c.is_sendable.ensures ∙ c.if-not-is_sendable.false) in
+    omega (arith, echo_length c.args.text.now, c.head_len.ensures, t)
 
 pub put_front-requires : goal.put_front-requires
-unfolding write_echo_def
 put_front-requires c =
-    omega (
-      arith,
-      c.put_echo-end.ensures.place,
-      sendable_fits _ _
-          (sym c.is_sendable.ensures
-          ∙ c.if-not-is_sendable.false),
-    )
+    let t = sendable_fits _ _ (sym c.is_sendable.ensures ∙ c.if-not-is_sendable.false) in
+    let e = echo_length c.args.text.now in
+    omega (arith, c.put_echo.ensures.place, wrote_length _ _ (echo_map c.args.text.now) (omega (arith, e, c.head_len.ensures, t)) c.put_echo.ensures, t)
 
 pub returns : goal.returns
 unfolding write_echo_def
 returns c =
     let a = c.args in
-    request_sent 0 a.sequence 0 (echo_map a.text.now) _ _ (omega
-    (arith, echo_length a.text.now, c.head_len.ensures))
-    (sym c.is_sendable.ensures
-    ∙ c.if-not-is_sendable.false)
-    c.put_echo-end.ensures c.put_front.ensures
+    let m = c.put_echo.ensures in
+    request_sent 0 a.sequence 0 (echo_map a.text.now) a.out.now _ _ (omega (arith, echo_length a.text.now, c.head_len.ensures))
+    (sym c.is_sendable.ensures ∙ c.if-not-is_sendable.false)
+    m.place m.written c.put_front.ensures (grind (arith, sym m.same_buffer))

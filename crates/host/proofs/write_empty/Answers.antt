@@ -4,6 +4,7 @@ use mathlib.Core.Path.{sym, ◌∙◌}
 use native.Mathlib.Omega.{arith}
 use lib.Dec.{lit<}
 use Rattle.cbor.specs.Write.{map_of}
+use Rattle.writer.proofs.Steps.{wrote_length}
 use Rattle.smp.proofs.Writing.{head_tiny}
 use Rattle.host.proofs.Writing.{sendable_fits, request_sent, request_refused}
 use Rattle.host.proofs.write_empty.Goals as goal
@@ -14,8 +15,8 @@ returns-then-not-is_sendable c =
     request_refused a.group a.sequence 5 (map_of 0) a.out.now 9 (omega (arith, head_tiny 5 0 (lit< tt)))
     (sym c.is_sendable.ensures ∙ c.if-not-is_sendable.true)
 
-pub put_head-end-requires : goal.put_head-end-requires
-put_head-end-requires c = (
+pub put_head-requires : goal.put_head-requires
+put_head-requires c = (
   lit< tt,
   omega (
     arith,
@@ -27,18 +28,13 @@ put_head-end-requires c = (
 
 pub put_front-requires : goal.put_front-requires
 put_front-requires c =
-    omega (
-      arith,
-      c.put_head-end.ensures.place,
-      sendable_fits 9 _
-          (sym c.is_sendable.ensures
-          ∙ c.if-not-is_sendable.false),
-    )
+    let t = sendable_fits 9 _ (sym c.is_sendable.ensures ∙ c.if-not-is_sendable.false) in
+    omega (arith, c.put_head.ensures.place, wrote_length _ _ (map_of 0) (omega (arith, head_tiny 5 0 (lit< tt), t)) c.put_head.ensures, t)
 
 pub returns : goal.returns
 returns c =
     let a = c.args in
-    request_sent a.group a.sequence 5 (map_of 0) 9 _ (omega (arith, head_tiny 5 0 (lit< tt)))
-    (sym c.is_sendable.ensures
-    ∙ c.if-not-is_sendable.false)
-    c.put_head-end.ensures c.put_front.ensures
+    let m = c.put_head.ensures in
+    request_sent a.group a.sequence 5 (map_of 0) a.out.now 9 _ (omega (arith, head_tiny 5 0 (lit< tt)))
+    (sym c.is_sendable.ensures ∙ c.if-not-is_sendable.false)
+    m.place m.written c.put_front.ensures (grind (arith, sym m.same_buffer))

@@ -9,10 +9,10 @@ use Rattle.host_calls.proofs.write_echo.Goals as goal
 pub told_c-requires : goal.told_c-requires
 told_c-requires c = λ n e.
     let a = c.args in
-    echo_small a.sequence a.text.now a.out.now n (ap (λ (o : Outcome). o.says) (sym c.write_echo-w.ensures) ∙ e)
+    echo_small a.sequence a.text.now a.out.now n (ap (λ (o : Outcome). o.says) (sym c.write_echo.ensures) ∙ e)
 
 pub returns : goal.returns
 unfolding wrote_c
 returns c =
     let a = c.args in
-    c.told_c.ensures c.write_echo-w.new.out ∙ ap (λ (o : Outcome). wrote_c a.size.now o) c.write_echo-w.ensures
+    c.told_c.ensures c.write_echo.new.out ∙ ap (λ (o : Outcome). wrote_c a.size.now o) c.write_echo.ensures

@@ -9,10 +9,10 @@ use Rattle.host_calls.proofs.write_erase.Goals as goal
 pub told_c-requires : goal.told_c-requires
 told_c-requires c = λ n e.
     let a = c.args in
-    erase_small a.sequence a.out.now n (ap (λ (o : Outcome). o.says) (sym c.write_erase-w.ensures) ∙ e)
+    erase_small a.sequence a.out.now n (ap (λ (o : Outcome). o.says) (sym c.write_erase.ensures) ∙ e)
 
 pub returns : goal.returns
 unfolding wrote_c
 returns c =
     let a = c.args in
-    c.told_c.ensures c.write_erase-w.new.out ∙ ap (λ (o : Outcome). wrote_c a.size.now o) c.write_erase-w.ensures
+    c.told_c.ensures c.write_erase.new.out ∙ ap (λ (o : Outcome). wrote_c a.size.now o) c.write_erase.ensures

@@ -9,10 +9,10 @@ use Rattle.host_calls.proofs.write_reset.Goals as goal
 pub told_c-requires : goal.told_c-requires
 told_c-requires c = λ n e.
     let a = c.args in
-    reset_small a.sequence a.out.now n (ap (λ (o : Outcome). o.says) (sym c.write_reset-w.ensures) ∙ e)
+    reset_small a.sequence a.out.now n (ap (λ (o : Outcome). o.says) (sym c.write_reset.ensures) ∙ e)
 
 pub returns : goal.returns
 unfolding wrote_c
 returns c =
     let a = c.args in
-    c.told_c.ensures c.write_reset-w.new.out ∙ ap (λ (o : Outcome). wrote_c a.size.now o) c.write_reset-w.ensures
+    c.told_c.ensures c.write_reset.new.out ∙ ap (λ (o : Outcome). wrote_c a.size.now o) c.write_reset.ensures

@@ -5,7 +5,7 @@ use Rattle.images.proofs.Laws.{Came}
 use Rattle.images.proofs.find_hash.Given as goal
 
 abbrev pub invariant-loop-at : goal.invariant-loop-at
-invariant-loop-at l = (l.at ≤ l.stop) × Came l.s l.start l.stop l.at l.found
+invariant-loop-at l = record { in_order : l.at ≤ l.area.stop; came : Came l.s l.area.start l.area.stop l.at l.hash }
 
 abbrev pub decreases-loop-at : goal.decreases-loop-at
-decreases-loop-at l = l.stop - l.at
+decreases-loop-at l = l.area.stop - l.at

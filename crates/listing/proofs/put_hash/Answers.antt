@@ -1,26 +1,17 @@
--- `listing::put_hash` meets its contract: the head of 32 bytes and then the bytes.
+-- `listing::put_hash` meets its contract: the key and then the bytes.
 -- Assumes nothing.
-use mathlib.Core.Path.{◌≡◌}
-use mathlib.Core.List.{List}
-use Prim.Native.Nat.{ℕ, ◌+◌, ◌-◌}
-use native.Mathlib.Omega.{arith}
-use lib.Dec.{lit<}
-use lib.ListN.{length, take, drop, length-take, length-drop}
-use Rattle.cbor.specs.Write.{head_of}
-use Rattle.smp.proofs.Writing.{put_then, room_first}
-use Rattle.listing.proofs.Laws.{hash_parts}
+use Rattle.cbor.specs.Write.{bytes_of, text_of}
+use Rattle.laws.specs.Parts.{part_of}
+use Rattle.writer.proofs.Steps.{room_second, wrote_twice}
+use Rattle.listing.specs.Listing.{name_hash}
 use Rattle.listing.proofs.put_hash.Goals as goal
 
-pub put_head-next-requires : goal.put_head-next-requires
-put_head-next-requires c =
-    let t : List ℕ = take (c.args.hash + 32 - c.args.hash) (drop c.args.hash c.args.s.now) in
-    let room = rw (hash_parts c.args.s.now c.args.hash c.requires.hash_in_bounds) at c.requires.hash_in_bounds_2 in
-    (lit< tt, room_first c.args.at (head_of 2 32) t room)
+pub put_string-requires-clause-has_room : goal.put_string-requires-clause-has_room
+put_string-requires-clause-has_room c =
+    let z = bytes_of (part_of c.args.s.now c.args.hash 32) in
+    rw c.of.ensures (room_second _ _ (text_of name_hash) z c.requires.has_room c.put_text.ensures)
 
 pub returns : goal.returns
 returns c =
-    let t : List ℕ = take (c.args.hash + 32 - c.args.hash) (drop c.args.hash c.args.s.now) in
-    let parts = hash_parts c.args.s.now c.args.hash c.requires.hash_in_bounds in
-    let size : length t ≡ 32 = simp (length-take, length-drop) (omega (arith, c.requires.hash_in_bounds)) in
-    rw parts (put_then (room_first c.args.at (head_of 2 32) t (rw parts at c.requires.hash_in_bounds_2)) c.put_head-next.ensures
-    (record { place = omega (arith, size); written = c.put.ensures }))
+    let z = bytes_of (part_of c.args.s.now c.args.hash 32) in
+    wrote_twice _ _ _ (text_of name_hash) z c.requires.has_room c.put_text.ensures (rw c.of.ensures at c.put_string.ensures)

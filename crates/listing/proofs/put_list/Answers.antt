@@ -1,81 +1,61 @@
--- `listing::put_list` meets its contract: the front, the images of slot 0 and slot 1, and then the header before them.
+-- `listing::put_list` meets its contract: the map's head and key, the array's head, and the two images.
 -- Assumes nothing.
-use mathlib.Core.Path.{ap₂}
-use mathlib.Core.List.{List}
+use mathlib.Core.List.{List, ◌++◌}
 use Prim.Native.Nat.{ℕ, ◌+◌}
-use native.Mathlib.Omega.{arith}
-use Rattle.slot.specs.History.{slot_in}
-use Rattle.session.proofs.Laws.{layout_bounds, region_bounds}
-use Rattle.smp.proofs.Writing.{put_three, room_one, room_two, room_three, packet_put}
-use Rattle.listing.specs.Listing.{image_map, list_map}
-use Rattle.listing.specs.Inner.{list_front}
-use Rattle.listing.proofs.Laws.{list_parts}
+use lib.Dec.{lit<}
+use Rattle.cbor.specs.Write.{text_of, map_of}
+use Rattle.writer.proofs.Steps.{room_first, room_second, wrote_twice}
+use Rattle.listing.specs.Listing.{name_images, array_of, image_map, image_count}
+use Rattle.listing.proofs.put_list.Goals.{After-count-2}
 use Rattle.listing.proofs.put_list.Goals as goal
 
-pub put_front-from-requires : goal.put_front-from-requires
-put_front-from-requires c =
-    let a = c.args in
-    let n : ℕ = c.count.result + c.count-2.result in
-    let x : List ℕ = image_map 0 (slot_in a.layout.slot0 a.memory.now) a.first in
-    let y : List ℕ = image_map 1 (slot_in a.layout.slot1 a.memory.now) a.second in
-    let sum = ap₂ (λ (i j : ℕ). i + j) c.count.ensures.0 c.count-2.ensures.0 in
-    let is = list_parts a.memory.now a.layout n a.first a.second c.requires.first_value.0 c.requires.first_value.1 sum in
-    room_one 8 (list_front n) x y (rw is at c.requires.layout_in_bounds)
+-- the array's head and the two images, and what stands before each
+abbrev array : (c : After-count-2) → List ℕ
+array c = array_of (image_count c.args.first.now.image + image_count c.args.second.now.image)
 
-pub put_slot-end-requires-clause-size_in_bounds : goal.put_slot-end-requires-clause-size_in_bounds
-put_slot-end-requires-clause-size_in_bounds c =
-    let a = c.args in
-    let n : ℕ = c.count.result + c.count-2.result in
-    let x : List ℕ = image_map 0 (slot_in a.layout.slot0 a.memory.now) a.first in
-    let y : List ℕ = image_map 1 (slot_in a.layout.slot1 a.memory.now) a.second in
-    let sum = ap₂ (λ (i j : ℕ). i + j) c.count.ensures.0 c.count-2.ensures.0 in
-    let is = list_parts a.memory.now a.layout n a.first a.second c.requires.first_value.0 c.requires.first_value.1 sum in
-    let room = rw is at c.requires.layout_in_bounds in ((region_bounds a.layout.slot1 _ (layout_bounds a.layout _ c.requires.memory_value).upload).inside)
+abbrev first : (c : After-count-2) → List ℕ
+first c = image_map 0 c.args.first.now.bytes.now c.args.first.now.image
+
+abbrev second : (c : After-count-2) → List ℕ
+second c = image_map 1 c.args.second.now.bytes.now c.args.second.now.image
+
+pub put_text-requires : goal.put_text-requires
+put_text-requires c =
+    let d = (goal.at.put_text-requires c).After-count-2 in
+    let r = room_second _ _ (map_of 1) (text_of name_images ++ (array d ++ (first d ++ second d))) c.requires c.put_head.ensures in
+    room_first c.put_head.new.out (text_of name_images) (array d ++ (first d ++ second d)) r
+
+pub put_head-requires-2 : goal.put_head-requires-2
+put_head-requires-2 c =
+    let d = (goal.at.put_head-requires-2 c).After-count-2 in
+    let r = room_second _ _ (map_of 1) (text_of name_images ++ (array d ++ (first d ++ second d))) c.requires c.put_head.ensures in
+    let s = room_second _ _ (text_of name_images) (array d ++ (first d ++ second d)) r c.put_text.ensures in
+    (lit< tt, rw (c.count.ensures.0, c.count-2.ensures.0) (room_first c.put_text.new.out (array d) (first d ++ second d) s))
+
+pub put_map-requires : goal.put_map-requires
+put_map-requires c =
+    let d = (goal.at.put_map-requires c).After-count-2 in
+    let r = room_second _ _ (map_of 1) (text_of name_images ++ (array d ++ (first d ++ second d))) c.requires c.put_head.ensures in
+    let s = room_second _ _ (text_of name_images) (array d ++ (first d ++ second d)) r c.put_text.ensures in
+    let t = room_second _ _ (array d) (first d ++ second d) s (rw (c.count.ensures.0, c.count-2.ensures.0) at c.put_head-2.ensures) in
+    room_first c.put_head-2.new.out (first d) (second d) t
+
+pub put_map-requires-2 : goal.put_map-requires-2
+put_map-requires-2 c =
+    let d = (goal.at.put_map-requires-2 c).After-count-2 in
+    let r = room_second _ _ (map_of 1) (text_of name_images ++ (array d ++ (first d ++ second d))) c.requires c.put_head.ensures in
+    let s = room_second _ _ (text_of name_images) (array d ++ (first d ++ second d)) r c.put_text.ensures in
+    let t = room_second _ _ (array d) (first d ++ second d) s (rw (c.count.ensures.0, c.count-2.ensures.0) at c.put_head-2.ensures) in
+    room_second _ _ (first d) (second d) t c.put_map.ensures
 
 pub returns : goal.returns
 returns c =
-    let a = c.args in
-    let n : ℕ = c.count.result + c.count-2.result in
-    let x : List ℕ = image_map 0 (slot_in a.layout.slot0 a.memory.now) a.first in
-    let y : List ℕ = image_map 1 (slot_in a.layout.slot1 a.memory.now) a.second in
-    let sum = ap₂ (λ (i j : ℕ). i + j) c.count.ensures.0 c.count-2.ensures.0 in
-    let is = list_parts a.memory.now a.layout n a.first a.second c.requires.first_value.0 c.requires.first_value.1 sum in
-    let whole =
-    rw (← is) at (put_three 8 (list_front n) x y (rw is at c.requires.layout_in_bounds) c.put_front-from.ensures c.put_slot-next.ensures
-    c.put_slot-end.ensures) in
-    packet_put a.h (list_map a.memory.now a.layout) c.put_slot-end.result c.requires.layout_in_bounds whole
-    c.put_reply_header.ensures
-
-pub put_slot-next-requires-clause-size_in_bounds : goal.put_slot-next-requires-clause-size_in_bounds
-put_slot-next-requires-clause-size_in_bounds c =
-    let a = c.args in
-    let n : ℕ = c.count.result + c.count-2.result in
-    let x : List ℕ = image_map 0 (slot_in a.layout.slot0 a.memory.now) a.first in
-    let y : List ℕ = image_map 1 (slot_in a.layout.slot1 a.memory.now) a.second in
-    let sum = ap₂ (λ (i j : ℕ). i + j) c.count.ensures.0 c.count-2.ensures.0 in
-    let is = list_parts a.memory.now a.layout n a.first a.second c.requires.first_value.0 c.requires.first_value.1 sum in
-    ((layout_bounds a.layout _ c.requires.memory_value).inside)
-
-pub put_slot-next-requires-clause-image_in_bounds : goal.put_slot-next-requires-clause-image_in_bounds
-put_slot-next-requires-clause-image_in_bounds c =
-    let a = c.args in
-    let n : ℕ = c.count.result + c.count-2.result in
-    let x : List ℕ = image_map 0 (slot_in a.layout.slot0 a.memory.now) a.first in
-    let y : List ℕ = image_map 1 (slot_in a.layout.slot1 a.memory.now) a.second in
-    let sum = ap₂ (λ (i j : ℕ). i + j) c.count.ensures.0 c.count-2.ensures.0 in
-    let is = list_parts a.memory.now a.layout n a.first a.second c.requires.first_value.0 c.requires.first_value.1 sum in
-    omega (arith, room_two 8 (list_front n) x y c.put_front-from.ensures.place (rw is at c.requires.layout_in_bounds))
-
-pub put_slot-end-requires-clause-image_in_bounds : goal.put_slot-end-requires-clause-image_in_bounds
-put_slot-end-requires-clause-image_in_bounds c =
-    let a = c.args in
-    let n : ℕ = c.count.result + c.count-2.result in
-    let x : List ℕ = image_map 0 (slot_in a.layout.slot0 a.memory.now) a.first in
-    let y : List ℕ = image_map 1 (slot_in a.layout.slot1 a.memory.now) a.second in
-    let sum = ap₂ (λ (i j : ℕ). i + j) c.count.ensures.0 c.count-2.ensures.0 in
-    let is = list_parts a.memory.now a.layout n a.first a.second c.requires.first_value.0 c.requires.first_value.1 sum in
-    let room = rw is at c.requires.layout_in_bounds in omega (
-      arith,
-      room_three 8 (list_front n) x y c.put_front-from.ensures.place
-          c.put_slot-next.ensures.place room,
-    )
+    let d = (goal.at.returns c).After-count-2 in
+    let r = room_second _ _ (map_of 1) (text_of name_images ++ (array d ++ (first d ++ second d))) c.requires c.put_head.ensures in
+    let s = room_second _ _ (text_of name_images) (array d ++ (first d ++ second d)) r c.put_text.ensures in
+    let head = rw (c.count.ensures.0, c.count-2.ensures.0) at c.put_head-2.ensures in
+    let t = room_second _ _ (array d) (first d ++ second d) s head in
+    wrote_twice _ _ _ (map_of 1) (text_of name_images ++ (array d ++ (first d ++ second d))) c.requires c.put_head.ensures
+    (wrote_twice _ _ _ (text_of name_images) (array d ++ (first d ++ second d)) r c.put_text.ensures
+    (wrote_twice _ _ _ (array d) (first d ++ second d) s head
+    (wrote_twice _ _ _ (first d) (second d) t c.put_map.ensures c.put_map-2.ensures)))

@@ -1,13 +1,7 @@
--- `pages::are_all` meets its contract: what was found so far, and one entry more.
+-- `pages::are_all`: what was found so far.
 -- Assumes nothing.
-use Prim.Native.Nat.{◌+◌, ◌-◌, ◌≤◌}
 use Rattle.pages.proofs.Laws.{Found}
 use Rattle.pages.proofs.are_all.Given as goal
 
-abbrev pub invariant-loop-k : goal.invariant-loop-k
-invariant-loop-k l = (l.from ≤ l.k)
-    × (l.k ≤ l.from + (l.to - l.from))
-    × Found l.counts l.from l.k l.v l.all
-
-abbrev pub decreases-loop-k : goal.decreases-loop-k
-decreases-loop-k l = l.to - l.k
+abbrev pub invariant-loop-c : goal.invariant-loop-c
+invariant-loop-c l = Found l.counts 0 l.c-index l.v l.all

@@ -1,13 +1,11 @@
--- `pages::follow` meets its contract: the entries below the lower place and from the higher place on are the same for both.
+-- `pages::follow`: the entries below the lower place and from the higher place on are the same for both.
 -- Assumes nothing.
 use native.Mathlib.Omega.{arith}
 use Rattle.pages.proofs.Laws.{followed_all}
 use Rattle.pages.proofs.follow.Goals as goal
-use Rattle.pages.proofs.follow.Goals.{then-after-before, else-after-before}
 
 pub returns : goal.returns
 returns c =
     let a = c.args in
     let l = c.loop-k in
-    followed_all a.counts.now a.before a.after l.k l.counts l.invariant
-    (elim c.if-after-before.branch [ then-after-before w ↦ omega arith | else-after-before w ↦ omega arith ])
+    followed_all a.counts.now a.before a.after l.k l.counts l.invariant (omega arith)

@@ -1,69 +1,54 @@
--- `replay::replay_records` meets its contract. The loop's invariant: the records that are left come to what all of them come to; one fewer is left with
--- each turn. While records are left the reader gives one, so that its other two answers never come.
+-- `replay::replay_records` meets its contract. The loop's invariant: the records that are left come to what all of them come to, and each gets the room
+-- that its answer wants. While records are left the reader gives one, so that its other answers never come.
 -- Assumes nothing.
-use mathlib.Core.Path.{◌≡◌, refl, sym, ap, ◌∙◌}
-use Prim.Native.Nat.{ℕ, ◌+◌, ◌-◌}
-use native.Mathlib.Omega.{arith}
-use lib.ListN.{take, drop}
-use Rattle.recording.specs.Recording.{said}
+use Rattle.std.proofs.Common.{refl, rules, ◌-◌, ◌+◌, arith}
 use Rattle.recording.proofs.Along.{step_inside}
-use Rattle.replay.specs.Inner.{Ends}
-use Rattle.replay.proofs.Laws.{bench_of, left_all, left_next, left_none}
+use Rattle.replay.proofs.Laws.{grown_again, same_again, left_all, left_next, left_none}
 use Rattle.replay.proofs.replay_records.Goals as goal
 
-pub loop-left-init : goal.loop-left-init
-loop-left-init c =
-    let a = c.args in (
-      left_all a.file.now a.place a.number a.answers.now (bench_of a.memory.now a.session.now a.tag.now a.reader.now a.packet.now a.reply.now)
-          c.requires.ahead c.requires.number_in_bounds,
-      refl,
-      refl,
-      refl,
-      refl,
-    )
+pub loop-init : goal.loop-init
+loop-init c =
+    let a = c.args in
+    record {
+      left = left_all a.file.now a.first a.rig.now a.answers.now c.requires.ahead c.requires.room;
+      same_rig = search rules;
+      grown = record { same_numbers = refl; as_long = refl; at_most = omega arith };
+    }
 
-pub overflow_add-end : goal.overflow_add-end
-overflow_add-end c =
+pub replay_record-requires : goal.replay_record-requires
+replay_record-requires c = omega (arith, c.loop.invariant.left.room)
+
+pub of-requires : goal.of-requires
+of-requires c =
+    let x = c.in-Ok-Some.record in
+    step_inside c.args.file.now c.loop.at x.to_controller x.line.start x.line.len (rw c.in-Ok-Some.field-0-is at c.in-Ok-Some.ensures)
+
+pub overflow_add-at : goal.overflow_add-at
+overflow_add-at c =
+    let x = c.in-Ok-Some.record in
     omega (
       arith,
-      step_inside c.args.file.now c.loop-left.at c.in-Record.to_controller c.in-Record.start c.in-Record.len (sym (ap said c.in-Record.is) ∙ c.read_at.ensures),
+      step_inside c.args.file.now c.loop.at x.to_controller x.line.start x.line.len (rw c.in-Ok-Some.field-0-is at c.in-Ok-Some.ensures),
       c.well_formed,
     )
 
-pub slice_bounds-replay_record-end : goal.slice_bounds-replay_record-end
-slice_bounds-replay_record-end c =
-    omega (
-      arith,
-      step_inside c.args.file.now c.loop-left.at c.in-Record.to_controller c.in-Record.start c.in-Record.len (sym (ap said c.in-Record.is) ∙ c.read_at.ensures),
-    )
-
-pub loop-left-preserved : goal.loop-left-preserved
-loop-left-preserved c =
-    let l = c.loop-left in
+pub loop-preserved : goal.loop-preserved
+loop-preserved c =
     let a = c.args in
-    let file = a.file.now in
-    let exact : c.in-Record.start + c.in-Record.len - c.in-Record.start ≡ c.in-Record.len = omega arith in (
-      left_next (Ends a.file.now a.place a.number a.answers.now (bench_of a.memory.now a.session.now a.tag.now a.reader.now a.packet.now a.reply.now))
-          file l.count l.at l.left l.answers (bench_of l.memory l.session l.tag l.reader l.packet l.reply) l.invariant.0 c.in-Record.to_controller
-          c.in-Record.start c.in-Record.len
-          (take (c.in-Record.start + c.in-Record.len - c.in-Record.start) (drop c.in-Record.start file)) c.replay_record-count.result
-          c.replay_record-count.new.answers
-          (bench_of c.replay_record-count.new.memory c.replay_record-count.new.session c.replay_record-count.new.tag c.replay_record-count.new.reader
-          c.replay_record-count.new.packet
-          c.replay_record-count.new.reply)
-          (omega (arith, c.loop-left-test.true)) (sym (ap said c.in-Record.is) ∙ c.read_at.ensures)
-          (ap (λ (n : ℕ). take n (drop c.in-Record.start file)) exact) c.replay_record-count.ensures.reply_after
-          c.replay_record-count.ensures.upper_bound c.replay_record-count.auto.answers,
-      c.replay_record-count.auto.memory ∙ l.invariant.1,
-      c.replay_record-count.auto.packet ∙ l.invariant.2,
-      c.replay_record-count.auto.reply ∙ l.invariant.3,
-      c.replay_record-count.auto.answers ∙ l.invariant.4,
-    )
+    let l = c.loop in
+    let x = c.in-Ok-Some.record in
+    let d = c.replay_record in
+    record {
+      left =
+          left_next a.file.now a.first a.rig.now a.answers.now l.at (a.first.number - l.counter) l.rig l.answers l.invariant.left x.to_controller
+          x.line.start x.line.len (a.first.number - (l.counter + 1)) d.new.rig d.new.answers (omega arith)
+          (rw c.in-Ok-Some.field-0-is at c.in-Ok-Some.ensures) (rw c.of.ensures at d.ensures.leads) d.ensures.grown (omega arith);
+      same_rig = same_again a.rig.now l.rig d.new.rig l.invariant.same_rig d.ensures.same_rig;
+      grown = grown_again a.answers.now l.answers d.new.answers l.counter l.invariant.grown d.ensures.grown;
+    }
 
-pub returns : goal.returns
-returns c =
-    let l = c.loop-left in
+pub returns-clause-ends : goal.returns-clause-ends
+returns-clause-ends c =
     let a = c.args in
-    left_none (Ends a.file.now a.place a.number a.answers.now (bench_of a.memory.now a.session.now a.tag.now a.reader.now a.packet.now a.reply.now))
-    a.file.now l.count l.at l.left l.answers (bench_of l.memory l.session l.tag l.reader l.packet l.reply) l.invariant.0
-    (omega (arith, c.loop-left-test.false))
+    let l = c.loop in
+    left_none a.file.now a.first a.rig.now a.answers.now l.at (a.first.number - l.counter) l.rig l.answers l.invariant.left (omega arith)

@@ -12,4 +12,4 @@ pub returns-then-b-le-TWO_FRAMES : goal.returns-then-b-le-TWO_FRAMES
 returns-then-b-le-TWO_FRAMES c = (sym (count_two c.args.b (omega arith) (omega arith)), omega arith)
 
 pub returns : goal.returns
-returns c = (sym (count_many c.args.b (omega arith)), omega arith)
+returns c = (omega (arith, count_many c.args.b (omega arith)), omega arith)

@@ -1,20 +1,16 @@
--- `sender::put_marker` meets its contract: the marker of the frame's number is written to the start.
+-- `sender::put_marker` meets its contract: the marker is that of the frame's number.
 -- Assumes nothing.
-use mathlib.Core.Path.{sym, ap, ◌∙◌}
-use mathlib.Core.List.{List}
-use Prim.Native.Nat.{ℕ}
-use Rattle.laws.specs.Bytes.{pasted}
 use Rattle.sender.proofs.Laws.{marker_first, marker_later}
 use Rattle.sender.proofs.put_marker.Goals as goal
 
-pub returns-then-k-eq0 : goal.returns-then-k-eq0
-returns-then-k-eq0 c =
-    let a = c.args in
-    c.put.ensures ∙ ap (λ (l : List ℕ). pasted a.out.now 0 l)
-    (sym (marker_first a.k c.if-k-eq0.true))
+pub bytes-requires : goal.bytes-requires
+bytes-requires c = rw (marker_first c.args.k c.if-k-eq0.true) at c.requires
 
-pub returns : goal.returns
-returns c =
-    let a = c.args in
-    c.put-2.ensures ∙ ap (λ (l : List ℕ). pasted a.out.now 0 l)
-    (sym (marker_later a.k c.if-k-eq0.false))
+pub bytes-requires-else-k-eq0 : goal.bytes-requires-else-k-eq0
+bytes-requires-else-k-eq0 c = rw (marker_later c.args.k c.if-k-eq0.false) at c.requires
+
+pub returns-then-k-eq0 : goal.returns-then-k-eq0
+returns-then-k-eq0 c = rw (marker_first c.args.k c.if-k-eq0.true) c.bytes.ensures
+
+pub returns-else-k-eq0 : goal.returns-else-k-eq0
+returns-else-k-eq0 c = rw (marker_later c.args.k c.if-k-eq0.false) c.bytes-else-k-eq0.ensures

@@ -17,7 +17,7 @@ returns-then-tag_len-eq0 c =
 pub overflow_add-result : goal.overflow_add-result
 overflow_add-result c = omega (arith, c.head_len-over.ensures, head_most 0 c.args.size)
 
-pub returns : goal.returns
-returns c =
+pub returns-else-tag_len-eq0 : goal.returns-else-tag_len-eq0
+returns-else-tag_len-eq0 c =
     let a = c.args in
     omega (arith, c.head_len-over.ensures, head_long 0 a.size, over_tagged a.size a.tag_len c.if-tag_len-eq0.false)

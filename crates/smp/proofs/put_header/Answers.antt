@@ -4,10 +4,4 @@ use Rattle.smp.proofs.Writing.{header_put}
 use Rattle.smp.proofs.put_header.Goals as goal
 
 pub returns : goal.returns
-returns c =
-    let a = c.args in
-    header_put a.h a.buf.now _ _ _ _
-    c.requires
-    c.put_two.ensures
-    c.put_be16.ensures
-    c.put_be16-2.ensures c.put_two-2.ensures
+returns c = header_put c.args.h c.args.buf.now _ _ _ _ c.requires c.put.ensures c.put_be16.ensures c.put_be16-2.ensures c.put-2.ensures

@@ -1,12 +1,12 @@
 -- `smp::put_number` meets its contract: the key and then the number.
 -- Assumes nothing.
+use lib.Dec.{lit<}
 use Rattle.cbor.specs.Write.{unsigned, text_of}
-use Rattle.smp.proofs.Writing.{put_then, room_first}
+use Rattle.writer.proofs.Steps.{room_second, wrote_twice}
 use Rattle.smp.proofs.put_number.Goals as goal
 
+pub put_head-requires : goal.put_head-requires
+put_head-requires c = (lit< tt, room_second _ _ (text_of c.args.name.now) (unsigned c.args.n) c.requires c.put_text.ensures)
+
 pub returns : goal.returns
-returns c =
-    let a = c.args in
-    put_then (room_first a.at (text_of a.name.now) (unsigned a.n)
-    c.requires)
-    c.put_text-next.ensures c.put_head.ensures
+returns c = wrote_twice _ _ _ (text_of c.args.name.now) (unsigned c.args.n) c.requires c.put_text.ensures c.put_head.ensures

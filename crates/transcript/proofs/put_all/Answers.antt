@@ -1,50 +1,42 @@
--- `transcript::put_all` meets its contract: with the rest of the text at the place that is reached, the output is the one asked for.
+-- `transcript::put_all` meets its contract: what is left has room behind the lines that are written, and whoever writes it has written the whole text.
 -- Assumes nothing.
-use mathlib.Core.Path.{refl, sym, ap, ◌∙◌}
-use mathlib.Core.List.{List}
-use Prim.Native.Nat.{ℕ}
-use native.Mathlib.Omega.{arith}
-use lib.ListN.{length}
-use Rattle.laws.specs.Bytes.{pasted}
-use Rattle.transcript.proofs.Laws.{rest_all, rest_none, rest_length, rest_written}
+use Prim.Native.Nat.{◌+◌}
+use Rattle.writer.proofs.Steps.{room_first, room_second, wrote_twice}
+use Rattle.transcript.specs.Transcript.{line_of}
+use Rattle.transcript.proofs.Laws.{rest_from, rest_all, rest_none, rest_turn}
 use Rattle.transcript.proofs.put_all.Goals as goal
 
 pub loop-k-init : goal.loop-k-init
 loop-k-init c =
-    let a = c.args in
-    let all = rest_all a.answers.now a.count a.session in
-    (ap (λ (l : List ℕ). pasted a.out.now 0 l) all, omega (arith, ap (λ (l : List ℕ). length l) all), refl, omega arith)
+    let all = rest_all c.args.answers.now c.args.count c.args.session in
+    record { room = rw all c.requires.has_room; leads = λ w wrote. rw all at wrote }
 
-pub put_line-at-requires : goal.put_line-at-requires
-put_line-at-requires c =
+pub put_line-requires : goal.put_line-requires
+put_line-requires c =
     let a = c.args in
-    omega (
-      arith,
-      c.requires.session_in_bounds,
-      c.loop-k.invariant.1,
-      c.loop-k.invariant.2,
-      rest_length a.answers.now a.count a.session c.loop-k.k c.loop-k-test.true,
-    )
+    let l = c.loop-k in
+    rw c.at.ensures
+    (room_first l.out (line_of a.answers.now l.k) (rest_from a.answers.now a.count a.session (l.k + 1))
+    (rw (rest_turn a.answers.now a.count a.session l.k c.loop-k-test.true) at l.invariant.room))
 
 pub loop-k-preserved : goal.loop-k-preserved
 loop-k-preserved c =
-    let l = c.loop-k in
     let a = c.args in
-    let next = rest_length a.answers.now a.count a.session l.k c.loop-k-test.true in (
-      rest_written a.answers.now a.count a.session l.k c.loop-k-test.true
-          (omega (arith, c.requires.session_in_bounds, l.invariant.1, l.invariant.2, next)) c.put_line-at.ensures
-          ∙ l.invariant.0,
-      omega (arith, c.put_line-at.ensures.place, l.invariant.1, next),
-      omega arith,
-      omega arith,
-    )
+    let l = c.loop-k in
+    let x = line_of a.answers.now l.k in
+    let y = rest_from a.answers.now a.count a.session (l.k + 1) in
+    let turn = rest_turn a.answers.now a.count a.session l.k c.loop-k-test.true in
+    let room = rw turn at l.invariant.room in
+    let wrote = rw c.at.ensures at c.put_line.ensures in
+    record {
+      room = room_second l.out c.put_line.new.out x y room wrote;
+      leads = λ w after. l.invariant.leads w (rw turn (wrote_twice l.out c.put_line.new.out w x y room wrote after));
+    }
+
+pub put_end-requires : goal.put_end-requires
+put_end-requires c =
+    rw (rest_none c.args.answers.now c.args.count c.args.session c.loop-k.k c.loop-k-test.false) at c.loop-k.invariant.room
 
 pub returns : goal.returns
 returns c =
-    let l = c.loop-k in
-    let a = c.args in
-    let last = rest_none a.answers.now a.count a.session l.k c.loop-k-test.false in
-    record {
-      place = omega (arith, c.put_end.ensures.place, l.invariant.1, ap (λ (l : List ℕ). length l) last);
-      written = c.put_end.ensures.written ∙ ap (λ (x : List ℕ). pasted l.out l.at x) (sym last) ∙ l.invariant.0;
-    }
+    c.loop-k.invariant.leads _ (rw (rest_none c.args.answers.now c.args.count c.args.session c.loop-k.k c.loop-k-test.false) c.put_end.ensures)

@@ -1,9 +1,11 @@
 -- `uploads::first_len` meets its contract: the parts of the map, whose key names and heads have known lengths; no sum wraps, as the data is below 2^32 bytes.
 -- Assumes nothing.
 use native.Mathlib.Omega.{arith}
+use mathlib.Core.Path.{sym, ◌∙◌}
 use lib.ListN.{length}
+use borrow.Author.Tests.{eqb-true}
 use Rattle.host.proofs.Writing.{head_most}
-use Rattle.uploads.proofs.Maps.{first_length_untagged, first_length_tagged, tag_size}
+use Rattle.uploads.proofs.Maps.{first_length_untagged, first_length_tagged, tag_size, tag_there}
 use Rattle.uploads.proofs.first_len.Goals as goal
 
 pub overflow_add-total : goal.overflow_add-total
@@ -23,15 +25,14 @@ overflow_add-total-3 c =
       c.requires.data_len_bound,
     )
 
-pub returns-then-tag-eq0 : goal.returns-then-tag-eq0
-returns-then-tag-eq0 c =
+pub returns-then-is_empty : goal.returns-then-is_empty
+returns-then-is_empty c =
+    let a = c.args in
     omega (
       arith,
       c.head_len.ensures,
       c.head_len-2.ensures,
-      first_length_untagged
-          c.args.«data».now c.args.size
-          c.args.tag.now c.if-tag-eq0.true,
+      first_length_untagged a.«data».now a.size a.tag.now (eqb-true (length a.tag.now) 0 (sym c.is_empty.ensures ∙ c.if-is_empty.true)),
     )
 
 pub overflow_add-result : goal.overflow_add-result
@@ -46,14 +47,13 @@ overflow_add-result c =
       c.requires.data_len_bound,
     )
 
-pub returns : goal.returns
-returns c =
+pub returns-else-is_empty : goal.returns-else-is_empty
+returns-else-is_empty c =
+    let a = c.args in
     omega (
       arith,
       c.head_len.ensures,
       c.head_len-2.ensures,
-      first_length_tagged
-          c.args.«data».now c.args.size
-          c.args.tag.now (tag_size c.args.tag.now
-          c.requires.tag_value c.if-tag-eq0.false),
+      first_length_tagged a.«data».now a.size a.tag.now
+          (tag_size a.tag.now c.requires.tag_value (tag_there a.tag.now (sym c.is_empty.ensures ∙ c.if-is_empty.false))),
     )

@@ -2,6 +2,7 @@
 -- Assumes nothing.
 use mathlib.Core.Path.{sym, ◌∙◌}
 use native.Mathlib.Omega.{arith}
+use Rattle.writer.proofs.Steps.{wrote_length}
 use Rattle.uploads.specs.Upload.{first_map}
 use Rattle.host.proofs.Writing.{sendable_fits, request_sent, request_refused}
 use Rattle.uploads.proofs.send_first.Goals as goal
@@ -12,31 +13,21 @@ returns-then-not-is_sendable c =
     request_refused 1 a.sequence 1 (first_map a.«data».now a.size a.tag.now) a.out.now _ c.first_len-total.ensures
     (sym c.is_sendable.ensures ∙ c.if-not-is_sendable.true)
 
-pub put_first-end-requires : goal.put_first-end-requires
-put_first-end-requires c =
+pub put_first-requires : goal.put_first-requires
+put_first-requires c =
     let a = c.args in
-    omega (
-      arith,
-      c.first_len-total.ensures,
-      sendable_fits _ _ (sym c.is_sendable.ensures
-          ∙ c.if-not-is_sendable.false),
-    )
+    let t = sendable_fits _ _ (sym c.is_sendable.ensures ∙ c.if-not-is_sendable.false) in
+    omega (arith, c.first_len-total.ensures, t)
 
 pub put_front-requires : goal.put_front-requires
 put_front-requires c =
-    omega (
-      arith,
-      c.put_first-end.ensures.place,
-      sendable_fits _ _
-          (sym c.is_sendable.ensures
-          ∙ c.if-not-is_sendable.false),
-    )
+    let a = c.args in
+    let t = sendable_fits _ _ (sym c.is_sendable.ensures ∙ c.if-not-is_sendable.false) in
+    omega (arith, c.put_first.ensures.place, wrote_length _ _ (first_map a.«data».now a.size a.tag.now) (omega (arith, c.first_len-total.ensures, t)) c.put_first.ensures, t)
 
 pub returns : goal.returns
 returns c =
     let a = c.args in
-    request_sent 1 a.sequence 1 (first_map a.«data».now a.size a.tag.now) _ _
-    c.first_len-total.ensures
-    (sym c.is_sendable.ensures
-    ∙ c.if-not-is_sendable.false)
-    c.put_first-end.ensures c.put_front.ensures
+    let m = c.put_first.ensures in
+    request_sent 1 a.sequence 1 (first_map a.«data».now a.size a.tag.now) a.out.now _ _ c.first_len-total.ensures (sym c.is_sendable.ensures ∙ c.if-not-is_sendable.false)
+    m.place m.written c.put_front.ensures (grind (arith, sym m.same_buffer))

@@ -3,6 +3,7 @@
 use mathlib.Core.Path.{sym, ◌∙◌}
 use native.Mathlib.Omega.{arith}
 use lib.ListN.{length}
+use Rattle.writer.proofs.Steps.{wrote_length}
 use Rattle.uploads.specs.Upload.{later_map}
 use Rattle.host.proofs.Writing.{sendable_fits, request_sent, request_refused, head_most}
 use Rattle.uploads.proofs.Maps.{later_length}
@@ -32,38 +33,21 @@ returns-then-not-is_sendable c =
     (omega (arith, later_length a.«data».now a.off, c.head_len.ensures, c.head_len-2.ensures))
     (sym c.is_sendable.ensures ∙ c.if-not-is_sendable.true)
 
-pub put_later-end-requires : goal.put_later-end-requires
-put_later-end-requires c =
+pub put_later-requires : goal.put_later-requires
+put_later-requires c =
     let a = c.args in
-    omega (
-      arith,
-      later_length a.«data».now a.off,
-      c.head_len.ensures,
-      c.head_len-2.ensures,
-      sendable_fits _ _ (sym c.is_sendable.ensures
-          ∙ c.if-not-is_sendable.false),
-    )
+    let t = sendable_fits _ _ (sym c.is_sendable.ensures ∙ c.if-not-is_sendable.false) in
+    omega (arith, later_length a.«data».now a.off, c.head_len.ensures, c.head_len-2.ensures, t)
 
 pub put_front-requires : goal.put_front-requires
 put_front-requires c =
-    omega (
-      arith,
-      c.put_later-end.ensures.place,
-      sendable_fits _ _
-          (sym c.is_sendable.ensures
-          ∙ c.if-not-is_sendable.false),
-    )
+    let a = c.args in
+    let t = sendable_fits _ _ (sym c.is_sendable.ensures ∙ c.if-not-is_sendable.false) in
+    omega (arith, c.put_later.ensures.place, wrote_length _ _ (later_map a.«data».now a.off) (omega (arith, later_length a.«data».now a.off, c.head_len.ensures, c.head_len-2.ensures, t)) c.put_later.ensures, t)
 
 pub returns : goal.returns
 returns c =
     let a = c.args in
-    request_sent 1 a.sequence 1 (later_map a.«data».now a.off) _ _
-    (omega (
-      arith,
-      later_length a.«data».now a.off,
-      c.head_len.ensures,
-      c.head_len-2.ensures,
-    ))
-    (sym c.is_sendable.ensures
-    ∙ c.if-not-is_sendable.false)
-    c.put_later-end.ensures c.put_front.ensures
+    let m = c.put_later.ensures in
+    request_sent 1 a.sequence 1 (later_map a.«data».now a.off) a.out.now _ _ (omega (arith, later_length a.«data».now a.off, c.head_len.ensures, c.head_len-2.ensures)) (sym c.is_sendable.ensures ∙ c.if-not-is_sendable.false)
+    m.place m.written c.put_front.ensures (grind (arith, sym m.same_buffer))

@@ -2,7 +2,6 @@
 -- Assumes nothing.
 use mathlib.Core.Path.{sym, ◌∙◌}
 use native.Mathlib.Omega.{arith}
-use borrow.Author.Rules.{rules}
 use Rattle.collector.proofs.Laws.{possible_count, collect_impossible, collect_long, collect_steps}
 use Rattle.collector.proofs.Collector.collect.Goals as goal
 
@@ -13,13 +12,7 @@ pub returns-then-lump-gt-LONGEST_LUMP : goal.returns-then-lump-gt-LONGEST_LUMP
 returns-then-lump-gt-LONGEST_LUMP c = sym (collect_long _ _ _ _ (sym c.is_impossible.ensures ∙ c.if-is_impossible.false) c.if-lump-gt-LONGEST_LUMP.true)
 
 pub step-requires : goal.step-requires
-step-requires c = (
-  search rules,
-  possible_count _ (sym c.is_impossible.ensures ∙ c.if-is_impossible.false),
-  omega
-      (arith, c.if-lump-gt-LONGEST_LUMP.false),
-  c.step-arg-1.given.0.1,
-)
+step-requires c = possible_count _ (sym c.is_impossible.ensures ∙ c.if-is_impossible.false)
 
 pub returns : goal.returns
 returns c =

@@ -1,23 +1,24 @@
--- `collector::Collector::step` meets its contract: it goes past the lump's end, to it, or to the first 0A.
+-- `collector::Collector::step` meets its contract: it goes to the lump's end, or past the first 0A.
 -- Assumes nothing.
-use Rattle.collector.proofs.Laws.{step_past, step_rest, step_line}
+use Rattle.std.proofs.Common.{◌≡◌, ◌-◌, ◌∙◌, List, ℕ, min, length, take, drop, rules}
+use Rattle.std.proofs.lemmas.List.{drop_min}
+use Rattle.laws.proofs.Lists.{rest_all}
+use Rattle.collector.proofs.Laws.{step_rest, step_line}
 use Rattle.collector.proofs.Collector.step.Goals as goal
 
-pub returns-then-len-at : goal.returns-then-len-at
-returns-then-len-at c =
-    let a = c.args in
-    step_past a.self a.lump.now a.at a.line.now c.requires.1 c.if-len-at.true
+-- the rest of a list from a place on that may lie behind its end
+rest_min : (at from : ℕ) (s : List ℕ) → from ≡ min at (length s) → take (length s - from) (drop from s) ≡ drop at s
+rest_min at from s e = rest_all s from ∙ rw e (drop_min at s)
 
-pub returns-then-end-len : goal.returns-then-end-len
-returns-then-end-len c =
+pub returns-in_default : goal.returns-in_default
+returns-in_default c =
     let a = c.args in
-    step_rest a.self a.lump.now a.at a.line.now _ _ c.if-len-at.false
-    c.first_newline-end.ensures.0 c.if-end-len.true c.with-longer.ensures
+    let e = rest_min a.at c.min-from.result a.lump.now c.min-from.ensures in
+    step_rest a.self a.lump.now a.at a.line.now _ c.with.result e c.in_default.ensures c.with.ensures
 
 pub returns : goal.returns
 returns c =
-    step_line _ _ _ _ _ _ _ _ c.if-len-at.false
-    c.first_newline-end.ensures.0
-    c.first_newline-end.ensures.1
-    c.if-end-len.false c.end-got.ensures
-    c.new-next.ensures
+    let a = c.args in
+    let e = rest_min a.at c.min-from.result a.lump.now c.min-from.ensures in
+    step_line a.self a.lump.now a.at c.min-from.result a.line.now _ c.in-Some.n _ c.end.new.line _
+    c.min-from.ensures e c.in-Some.ensures.0 c.in-Some.ensures.1 c.end.ensures (search rules)
