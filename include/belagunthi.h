@@ -18,24 +18,24 @@
  * configured, and memory, session record and tag come back to each call as the last one left them. A reader owes the same of its record and its
  * packet buffer from line to line (see bg_take_line), and of the collector's record and its bytes from step to step (see bg_collect).
  *
- * To link: the archive libport.a is code for x86-64 Linux, today for no other processor, and needs memcpy and memset of the C library, and nothing
- * else. No call takes more than BG_STACK bytes of stack, but bg_replay, which takes at most BG_BENCH_STACK; measured on x86-64,
- * without what memcpy and memset take:
- *   bg_collect           408
- *   bg_take_line        1072
+ * To link: the archive libport.a is code for x86-64 Linux, today for no other processor, and needs memcpy, memmove and memset of the C library, and
+ * nothing else. No call takes more than BG_STACK bytes of stack, but bg_replay, which takes at most BG_BENCH_STACK; measured on x86-64,
+ * without what these three take:
+ *   bg_collect           664
+ *   bg_take_line        1032
  *   bg_send_frame        792
- *   bg_configure           8
- *   bg_handle            680
+ *   bg_configure           0
+ *   bg_handle            920
  *   bg_write_echo         56
- *   bg_write_reset         8
- *   bg_write_erase         8
- *   bg_write_upload      200
+ *   bg_write_reset         0
+ *   bg_write_erase         0
+ *   bg_write_upload      184
  *   bg_most_data           8
- *   bg_read_reply        376
+ *   bg_read_reply        408
  *   bg_next_sequence       8
- *   bg_first_record       56
+ *   bg_first_record       64
  *   bg_next_record         0
- *   bg_replay           1360
+ *   bg_replay           1320
  *   bg_write_transcript  136
  */
 #ifndef BELAGUNTHI_H
