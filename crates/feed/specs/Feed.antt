@@ -1,7 +1,7 @@
 -- Lines fed to a controller on a bench, by hand: each goes to the call that takes a line, and each packet that this completes to the request call. What is
 -- said of each line, and what it leaves.
 -- Assumes nothing.
-use Rattle.std.specs.Prelude.{ℕ, List, [], ◌∷◌, eqb, take, get_or, replicate, Option, Some, None, Result, Ok, Err}
+use Rattle.std.specs.Prelude.{ℕ, ◌≡◌, ◌≢◌, List, [], ◌∷◌, eqb, take, get_or, replicate, Option, Some, None, Result, Ok, Err, IfErr}
 use Rattle.laws.specs.Choice.{pick}
 use Rattle.records.specs.Results.{TookLine, HandledC}
 use Rattle.line_calls.specs.Calls.{took_line}
@@ -44,6 +44,14 @@ abbrev pub said : Result (Option ℕ) Refused → Answer
 said (Ok None) = more
 said (Ok (Some rc)) = replying rc
 said (Err r) = refusing r.refusal r.place
+
+-- an answer that refuses has the refusal's number, which is never 0
+abbrev pub IsNumbered : Result (Option ℕ) Refused → Type 0
+IsNumbered x = IfErr x (λ why. why.refusal ≢ 0)
+
+-- such an answer is determined by what it means
+abbrev pub AnswerDetermined : Type 0
+AnswerDetermined = (x y : Result (Option ℕ) Refused) → IsNumbered x → IsNumbered y → said x ≡ said y → x ≡ y
 
 -- what is said of a line, and what it leaves
 pub record Fed : Type 0 where

@@ -3,7 +3,7 @@
 #![tactic(auto)]
 
 ghost use Rattle.std.specs.Prelude.{◌≡◌, take};
-ghost use Rattle.feed.specs.Feed.{rc_in, said, hand_over_def, feed_line_def};
+ghost use Rattle.feed.specs.Feed.{rc_in, said, IsNumbered, hand_over_def, feed_line_def};
 ghost use Rattle.feed.specs.Rig.{bench_in, SameRig};
 
 // The size of each slot: slot 0 is the first half of the memory, the upload slot the second.
@@ -51,6 +51,7 @@ impl Rig<'_> {
     #[tactic(auto, unfolding(crate::specs::Feed::hand_over_def, crate::specs::Feed::answered, laws::specs::Choice::pick))]
     fn hand_over(&mut self, n: u32) -> Result<Option<u32>, Refused>
         ensures bench { record { says = said result; bench = bench_in self.new } ≡ hand_over_def (bench_in self.old) n }
+        ensures numbered { IsNumbered result }
         ensures same { SameRig self.old self.new }
     {
         let layout = [0, HALF, HALF, HALF];
@@ -78,6 +79,7 @@ impl Rig<'_> {
     #[tactic(auto, unfolding(crate::specs::Feed::feed_line_def, crate::specs::Feed::go_on, laws::specs::Choice::pick))]
     pub fn feed_line(&mut self, line: &[u8]) -> Result<Option<u32>, Refused>
         ensures bench { record { says = said result; bench = bench_in self.new } ≡ feed_line_def (bench_in self.old) line.now }
+        ensures numbered { IsNumbered result }
         ensures same { SameRig self.old self.new }
     {
         let mut body = 0u32;

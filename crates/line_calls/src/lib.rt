@@ -48,12 +48,14 @@ pub fn collect(
     let before = records::collector_from(record, *held);
     let step = before.collect(lump, at, line);
     let gave = step.got;
-    if records::went_on(gave) {
+    let result = records::step_result(gave);
+    if records::went_on(result) {
         let length = records::step_length(gave);
         records::store_collector(record, held, step.collector);
         *got = [length, step.place as u32];
+        return result;
     }
-    records::step_result(gave)
+    result
 }
 
 // Writes frame number k of a body, as a line, to the start of out.

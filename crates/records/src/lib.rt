@@ -144,15 +144,12 @@ pub fn step_length(got: Result<Option<usize>, Refusal>) -> u32
     }
 }
 
-// Whether a step that gave this went on in its lump.
-#[tactic(auto, unfolding(crate::specs::Results::step_result_def, laws::specs::Choice::pick))]
-pub fn went_on(got: Result<Option<usize>, Refusal>) -> bool
-    ensures { result ≡ went_on_def (step_result_def (said got)) }
+// Whether a step with this result went on in its lump.
+#[tactic(auto, unfolding(laws::specs::Choice::pick))]
+pub fn went_on(res: u32) -> bool
+    ensures { result ≡ went_on_def res }
 {
-    match got {
-        Ok(_) => true,
-        Err(why) => why == Refusal::LineTooLong,
-    }
+    matches!(res, 0 | 2)
 }
 
 // The two regions out of their four numbers.

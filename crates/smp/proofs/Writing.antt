@@ -23,6 +23,7 @@ use Rattle.fields.specs.Keys.{name_rc, name_off}
 use Rattle.smp.specs.declared.Header.{Header}
 use Rattle.smp.specs.declared.Reply.{Reply}
 use Rattle.smp.specs.Packet.{header_bytes}
+use Rattle.reason.specs.declared.Reason.{Reason}
 use Rattle.reason.specs.Rc.{rc_of_def}
 use Rattle.reason.proofs.Byte.{rc_byte}
 use Rattle.smp.specs.Reply.{rc_map, reply_map, reply_header_def, reply_packet, reply_bytes, Sayable}
@@ -158,6 +159,11 @@ rc_room n l h = omega (arith, rc_map_lem n, head_byte 0 n l)
 -- so it fits
 pub rc_fits : (n room : ℕ) → n < 256 → 32 ≤ room → ltb room (8 + length (rc_map n)) ≡ false
 rc_fits n room l h = le-ltb room (8 + length (rc_map n)) (rc_room n l h)
+
+-- a refusal has room in such a buffer, whatever its reason
+pub refusal_room : (s : List ℕ) (why : Reason) {room : ℕ} → 32 ≤ room → 8 + length (reply_map s (Reply.Refused why)) ≤ room
+unfolding reply_map
+refusal_room s why h = rc_room (rc_of_def why) (rc_byte why) h
 
 -- a place fits a buffer of at least 32 bytes
 pub placed_fits : (s : List ℕ) (n room : ℕ) → n < 4294967296 → 32 ≤ room → ltb room (8 + length (reply_map s (Reply.Placed n))) ≡ false

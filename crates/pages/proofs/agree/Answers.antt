@@ -25,7 +25,13 @@ returns-then-counts-pages c =
 pub slice_bounds-are_all-end : goal.slice_bounds-are_all-end
 slice_bounds-are_all-end c =
     let a = c.args in
-    rw length-take (omega (arith, c.if-counts-pages.false, c.pages_of-pages.ensures, full_pages a.size a.n c.requires.0))
+    omega (
+      arith,
+      length-take (a.n / page_size) a.counts.now,
+      c.if-counts-pages.false,
+      c.pages_of-pages.ensures,
+      full_pages a.size a.n c.requires.0,
+    )
 
 pub returns-then-not-are_all : goal.returns-then-not-are_all
 returns-then-not-are_all c =
