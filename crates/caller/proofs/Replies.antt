@@ -11,7 +11,7 @@ use Rattle.laws.proofs.Choice.{pick_case}
 use Rattle.fields.specs.declared.Kind.{Kind}
 use Rattle.fields.specs.declared.Key.{Key}
 use Rattle.fields.specs.declared.Fields.{Fields}
-use Rattle.fields.specs.Fields.{number_in_def, run_in_def}
+use Rattle.fields.specs.Fields.{index_of, number_in_def, run_in_def}
 use Rattle.map.specs.Walk.{map_from_def}
 use Rattle.map.proofs.Sound.{map_run}
 use Rattle.rules.specs.Plan.{above, largest}
@@ -28,11 +28,11 @@ Sound p (refused n) = 0 < n
 
 -- a map's values
 of_values : (p : List ℕ) (f : Fields) → map_from_def Kind.Reply p 8 ≡ Some f → Sound p (values_of p f)
-unfolding values_of
+unfolding values_of index_of
 of_values p f e =
     pick_case (Sound p) (above largest (number_in_def f Key.Rc)) _ _ (λ g. lit< tt)
     (λ g. pick_case (Sound p) (above largest (number_in_def f Key.Off)) _ _ (λ h. lit< tt)
-    (λ h. run_inside p (run_in_def f Key.Text) (map_run Kind.Reply p 8 f e Key.Text)))
+    (λ h. run_inside p (run_in_def f Key.Text) (map_run Kind.Reply p 8 f e Key.Text (lit< tt))))
 
 -- a map
 of_map : (p : List ℕ) (w : Option Fields) → map_from_def Kind.Reply p 8 ≡ w → Sound p (map_read p w)

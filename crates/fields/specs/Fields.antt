@@ -1,10 +1,11 @@
--- The fields of a map: what has been read for each known key, in a row, with none where the key has not been there. What is read of a field is what
--- its key's type says: a number, a string or a flag.
+-- The fields of a map: what has been read for each known key, in a row, with none where the key has not been there. What is read of a field are the
+-- numbers of its value: a number, and 0; false or true as 0 or 1, and 0; or where a string starts in the packet, and its length. So a field holds
+-- what its key's type says, and is absent only where its key is.
 -- Assumes nothing.
-use Rattle.std.specs.Prelude.{ℕ, ◌≡◌, Bool, true, false, length, get_or, set, replicate, Option, Some, None, is_some}
+use Rattle.std.specs.Prelude.{ℕ, ◌≡◌, Bool, true, false, eqb, length, get_or, set, replicate, Option, Some, None, is_some}
 use Rattle.laws.specs.declared.Run.{Run}
 use Rattle.cbor.specs.declared.Value.{Value}
-use Rattle.cbor.specs.declared.Value.TheVariants.{Unsigned, Bytes, Text, Flag}
+use Rattle.cbor.specs.declared.Value.TheVariants.{Unsigned, Negative, Bytes, Text, Flag, Null}
 use Rattle.fields.specs.declared.Key.{Key}
 use Rattle.fields.specs.declared.Fields.{Fields}
 
@@ -37,23 +38,39 @@ unfoldable pub flag_number_def : Bool → ℕ
 flag_number_def true = 1
 flag_number_def false = 0
 
+-- the two numbers of a value
+unfoldable pub first_of : Value → ℕ
+first_of (Unsigned n) = n
+first_of (Negative n) = n
+first_of (Bytes r) = r.start
+first_of (Text r) = r.start
+first_of (Flag b) = flag_number_def b
+first_of Null = 0
+
+unfoldable pub second_of : Value → ℕ
+second_of (Unsigned n) = 0
+second_of (Negative n) = 0
+second_of (Bytes r) = r.len
+second_of (Text r) = r.len
+second_of (Flag b) = 0
+second_of Null = 0
+
 -- the fields with a value under a key
 unfoldable pub stored : Key → Value → Fields → Fields
 stored k v f = record { values = set f.values (index_of k) (Some v) }
 
--- the number of a value that may be there, its string, its flag
+-- the number of a value that may be there, its string and its flag: none, or for a flag false, only where no value is
 unfoldable pub as_number : Option Value → Option ℕ
-as_number (Some (Unsigned n)) = Some n
-as_number o = None
+as_number None = None
+as_number (Some v) = Some (first_of v)
 
 unfoldable pub as_run : Option Value → Option Run
-as_run (Some (Bytes r)) = Some r
-as_run (Some (Text r)) = Some r
-as_run o = None
+as_run None = None
+as_run (Some v) = Some (record { start = first_of v; len = second_of v })
 
 unfoldable pub as_flag : Option Value → Bool
-as_flag (Some (Flag b)) = b
-as_flag o = false
+as_flag None = false
+as_flag (Some v) = eqb (first_of v) 1
 
 -- the number, the string and the flag under a key; a flag that is left out is false
 unfoldable pub number_in_def : Fields → Key → Option ℕ

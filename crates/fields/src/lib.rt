@@ -3,7 +3,7 @@
 
 ghost use Rattle.std.specs.Prelude.{◌≡◌, ◌<◌};
 ghost use Rattle.fields.specs.Keys.{key_of, type_of, type_for_def};
-ghost use Rattle.fields.specs.Fields.{index_of, nothing, under, there, stored, number_in_def, run_in_def, flag_in_def};
+ghost use Rattle.fields.specs.Fields.{index_of, nothing, under, there, first_of, second_of, stored, number_in_def, run_in_def, flag_in_def};
 
 use cbor::Value;
 use laws::Run;
@@ -111,6 +111,30 @@ pub fn type_for(k: Key) -> ValueType
     }
 }
 
+// The first number of a value.
+#[tactic(auto, unfolding(crate::specs::Fields::first_of, crate::specs::Fields::flag_number_def))]
+fn first_of(v: Value) -> u64
+    ensures { result ≡ first_of v }
+{
+    match v {
+        Value::Unsigned(n) | Value::Negative(n) => n,
+        Value::Bytes(run) | Value::Text(run) => run.start as u64,
+        Value::Flag(b) => u64::from(b),
+        Value::Null => 0,
+    }
+}
+
+// The second number of a value.
+#[tactic(auto, unfolding(crate::specs::Fields::second_of))]
+fn second_of(v: Value) -> u64
+    ensures { result ≡ second_of v }
+{
+    match v {
+        Value::Bytes(run) | Value::Text(run) => run.len as u64,
+        Value::Unsigned(_) | Value::Negative(_) | Value::Flag(_) | Value::Null => 0,
+    }
+}
+
 // A key's place among a map's fields.
 #[tactic(auto, unfolding(crate::specs::Fields::index_of))]
 pub fn place_of(k: Key) -> usize
@@ -149,36 +173,42 @@ impl Fields {
         self.values[place_of(k)] = Some(v);
     }
 
-    // The number under a key.
-    #[tactic(auto, unfolding(crate::specs::Fields::number_in_def, crate::specs::Fields::as_number))]
+    // The number under a key: none only where the key has not been there.
+    #[tactic(auto, unfolding(crate::specs::Fields::number_in_def, crate::specs::Fields::as_number, crate::specs::Fields::first_of))]
     pub fn number(&self, k: Key) -> Option<u64>
         ensures { result ≡ number_in_def self.now k }
     {
         match self.under(k) {
             Some(Value::Unsigned(n)) => Some(n),
-            _ => None,
+            Some(v) => Some(first_of(v)),
+            None => None,
         }
     }
 
-    // The string under a key, bytes or text.
-    #[tactic(auto, unfolding(crate::specs::Fields::run_in_def, crate::specs::Fields::as_run))]
+    // The string under a key, bytes or text: none only where the key has not been there.
+    #[tactic(auto, unfolding(crate::specs::Fields::run_in_def, crate::specs::Fields::as_run, crate::specs::Fields::first_of, crate::specs::Fields::second_of))]
     pub fn run(&self, k: Key) -> Option<Run>
         ensures { result ≡ run_in_def self.now k }
     {
         match self.under(k) {
             Some(Value::Bytes(run) | Value::Text(run)) => Some(run),
-            _ => None,
+            Some(v) => Some(Run {
+                start: first_of(v) as usize,
+                len: second_of(v) as usize,
+            }),
+            None => None,
         }
     }
 
     // The flag under a key; one that is left out is false.
-    #[tactic(auto, unfolding(crate::specs::Fields::flag_in_def, crate::specs::Fields::as_flag))]
+    #[tactic(auto, unfolding(crate::specs::Fields::flag_in_def, crate::specs::Fields::as_flag, crate::specs::Fields::first_of, crate::specs::Fields::flag_number_def))]
     pub fn flag(&self, k: Key) -> bool
         ensures { result ≡ flag_in_def self.now k }
     {
         match self.under(k) {
             Some(Value::Flag(b)) => b,
-            _ => false,
+            Some(v) => first_of(v) == 1,
+            None => false,
         }
     }
 }

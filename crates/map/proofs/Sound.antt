@@ -1,9 +1,10 @@
 -- Every string among the fields of a map that was read lies within the bytes that it was read from.
 -- Assumes nothing.
 use Prim.{Unit}
-use Rattle.std.proofs.Common.{◌≡◌, ℕ, zero, suc, ◌+◌, ◌-◌, List, length, take, drop}
+use Rattle.std.proofs.Common.{◌≡◌, ℕ, zero, suc, ◌+◌, ◌-◌, ◌<◌, List, length, take, drop}
 use Rattle.std.specs.Prelude.{Option, Some, None, not}
 use lib.Dec.{ltb, eqb}
+use borrow.Author.Tests.{eqb-true, not-false}
 use Rattle.laws.specs.Parts.{Within}
 use Rattle.laws.proofs.Choice.{pick_case}
 use Rattle.cbor.specs.declared.Value.{Value}
@@ -16,7 +17,8 @@ use Rattle.fields.specs.declared.Kind.{Kind}
 use Rattle.fields.specs.declared.Key.{Key}
 use Rattle.fields.specs.declared.Fields.{Fields}
 use Rattle.fields.specs.Keys.{key_of, typed}
-use Rattle.fields.specs.Fields.{nothing, there, run_in_def}
+use Rattle.fields.specs.Fields.{index_of, nothing, there, run_in_def}
+use Rattle.fields.proofs.Types.{types_apart}
 use Rattle.fields.proofs.Sound.{Sound, nothing_sound, stored_sound, run_sound}
 use Rattle.map.specs.Walk.{
   Found,
@@ -43,7 +45,7 @@ unfolding entered FoundSound
 entered_sound s f k v next within o =
     pick_case (FoundSound s) (there k f) _ _ (λ g. tt)
     (λ g. pick_case (FoundSound s) (not (typed k v)) _ _ (λ t. tt)
-    (λ t. stored_sound s f k v within o))
+    (λ t. stored_sound s f k v (types_apart _ _ (eqb-true _ _ (not-false _ t))) within o))
 
 valued_sound : (s : List ℕ) (f : Fields) (key : Option Key) (at : ℕ) (i : Option Item) → ItemWithin s at i → Sound s f → FoundSound s (valued key f i)
 unfolding valued FoundSound
@@ -96,7 +98,7 @@ map_sound kind s from =
     pick_case (MapSound s) (eqb (length s) from) _ _ (λ h. nothing_sound s)
     (λ h. ending_sound s (length s) (map_at_def kind s from nothing) (after_sound kind s nothing (head_at_def s from) (nothing_sound s)))
 
--- the string under a key of a map that was read lies within its bytes
-pub map_run : (kind : Kind) (s : List ℕ) (from : ℕ) (f : Fields) → map_from_def kind s from ≡ Some f → (k : Key) → Within s (run_in_def f k)
+-- the string under a key of a map that was read, which holds one, lies within its bytes
+pub map_run : (kind : Kind) (s : List ℕ) (from : ℕ) (f : Fields) → map_from_def kind s from ≡ Some f → (k : Key) → index_of k < 3 → Within s (run_in_def f k)
 unfolding MapSound
-map_run kind s from f e k = run_sound s f k (rw e at (map_sound kind s from))
+map_run kind s from f e k h = run_sound s f k h (rw e at (map_sound kind s from))

@@ -28,7 +28,7 @@ use Rattle.fields.specs.declared.Kind.{Kind}
 use Rattle.fields.specs.declared.Key.{Key}
 use Rattle.fields.specs.declared.Fields.{Fields}
 use Rattle.fields.specs.Keys.{name_d, name_r}
-use Rattle.fields.specs.Fields.{index_of, stored, as_number, as_run, as_flag, number_in_def, run_in_def, flag_in_def}
+use Rattle.fields.specs.Fields.{index_of, first_of, second_of, stored, as_number, as_run, as_flag, number_in_def, run_in_def, flag_in_def}
 use Rattle.map.specs.Walk.{map_from_def}
 use Rattle.rules.specs.declared.Upload.{Upload}
 use Rattle.rules.specs.Plan.{above, largest}
@@ -169,7 +169,7 @@ erase_meant sequence out n e =
 
 -- an echo that was written is read as the echo of that text
 pub echo_meant : EchoMeant
-unfolding write_echo_def echo_map request_of_def mapped echo_with run_in_def stored index_of as_number as_run as_flag pick
+unfolding write_echo_def echo_map request_of_def mapped echo_with run_in_def stored index_of first_of second_of as_number as_run as_flag pick
 echo_meant sequence text out n e =
     let m : List ℕ = echo_map text in
     let p : List ℕ = request_packet 0 sequence 0 m in
@@ -269,7 +269,7 @@ values_heard p f h rc off text back a b c small less =
 rc_meant_lem : (s : List ℕ) (n : ℕ) → (header_in_def s).group < 65536 → is_request_def s ≡ true → n < 256 → 8 + length (rc_map n) ≤ 65533
     → read_reply_def (reply_packet (header_in_def s) (rc_map n))
     ≡ reply (record { header = answer s (rc_map n); rc = n; off = None; text = None })
-unfolding map_read number_in_def run_in_def or_zero above stored index_of as_number as_run as_flag pick
+unfolding map_read number_in_def run_in_def or_zero above stored index_of first_of second_of as_number as_run as_flag pick
 rc_meant_lem s n group is small most =
     let m : List ℕ = rc_map n in
     let p : List ℕ = reply_packet (header_in_def s) m in
@@ -283,7 +283,7 @@ rc_meant_lem s n group is small most =
 placed_meant : (s : List ℕ) (n : ℕ) → (header_in_def s).group < 65536 → is_request_def s ≡ true → n < 4294967296 → 8 + length (reply_map s (Answered.Placed n)) ≤ 65533
     → read_reply_def (reply_packet (header_in_def s) (reply_map s (Answered.Placed n)))
     ≡ reply (record { header = answer s (reply_map s (Answered.Placed n)); rc = 0; off = Some n; text = None })
-unfolding map_read number_in_def run_in_def or_zero above stored index_of as_number as_run as_flag pick
+unfolding map_read number_in_def run_in_def or_zero above stored index_of first_of second_of as_number as_run as_flag pick
 placed_meant s n group is small most =
     let m : List ℕ = reply_map s (Answered.Placed n) in
     let p : List ℕ = reply_packet (header_in_def s) m in
@@ -309,7 +309,7 @@ text_meant_lem : (s : List ℕ) (from len : ℕ) → (header_in_def s).group < 6
     × (read_reply_def (reply_packet (header_in_def s) (reply_map s (Answered.Text (run_is from len))))
     ≡ reply (record { header = answer s (reply_map s (Answered.Text (run_is from len))); rc = 0; off = None; text = Some (run_is start len) }))
     × (take len (drop start (reply_packet (header_in_def s) (reply_map s (Answered.Text (run_is from len))))) ≡ take len (drop from s))
-unfolding map_read number_in_def run_in_def or_zero above stored index_of as_number as_run as_flag pick
+unfolding map_read number_in_def run_in_def or_zero above stored index_of first_of second_of as_number as_run as_flag pick
 text_meant_lem s from len group is inside most =
     let m : List ℕ = reply_map s (Answered.Text (run_is from len)) in
     let p : List ℕ = reply_packet (header_in_def s) m in
@@ -387,7 +387,7 @@ asked off start size length sha =
 later_meant : (sequence : ℕ) (x : List ℕ) (off size : ℕ) (tag : List ℕ) → (off ≡ 0 → ⊥) → off ≤ 4294967295
     → length (request_packet 1 sequence 1 (later_map x off)) ≤ 65533
     → (u : Upload) × UploadIs sequence x off size tag (request_packet 1 sequence 1 (later_map x off)) u
-unfolding upload_with number_in_def run_in_def flag_in_def bytes_in both stored index_of as_number as_run as_flag pick
+unfolding upload_with number_in_def run_in_def flag_in_def bytes_in both stored index_of first_of second_of as_number as_run as_flag pick
 later_meant sequence x off size tag past small most =
     let m : List ℕ = later_map x off in
     let p : List ℕ = request_packet 1 sequence 1 m in
@@ -416,7 +416,7 @@ later_meant sequence x off size tag past small most =
 untagged_meant : (sequence : ℕ) (x : List ℕ) (size : ℕ) (tag : List ℕ) → length tag ≡ 0 → size ≤ 4294967295
     → length (request_packet 1 sequence 1 (first_map x size tag)) ≤ 65533
     → (u : Upload) × UploadIs sequence x 0 size tag (request_packet 1 sequence 1 (first_map x size tag)) u
-unfolding upload_with number_in_def run_in_def flag_in_def bytes_in both stored index_of as_number as_run as_flag pick
+unfolding upload_with number_in_def run_in_def flag_in_def bytes_in both stored index_of first_of second_of as_number as_run as_flag pick
 untagged_meant sequence x size tag none small most =
     let m : List ℕ = first_map x size tag in
     let p : List ℕ = request_packet 1 sequence 1 m in
@@ -448,7 +448,7 @@ untagged_meant sequence x size tag none small most =
 tagged_meant : (sequence : ℕ) (x : List ℕ) (size : ℕ) (tag : List ℕ) → length tag ≡ 32 → size ≤ 4294967295
     → length (request_packet 1 sequence 1 (first_map x size tag)) ≤ 65533
     → (u : Upload) × UploadIs sequence x 0 size tag (request_packet 1 sequence 1 (first_map x size tag)) u
-unfolding upload_with number_in_def run_in_def flag_in_def bytes_in both stored index_of as_number as_run as_flag pick
+unfolding upload_with number_in_def run_in_def flag_in_def bytes_in both stored index_of first_of second_of as_number as_run as_flag pick
 tagged_meant sequence x size tag whole small most =
     let m : List ℕ = first_map x size tag in
     let p : List ℕ = request_packet 1 sequence 1 m in

@@ -9,6 +9,7 @@ use Prim.Native.Nat.{ℕ, zero, suc, ◌+◌, ◌-◌, ◌≤◌}
 use native.Mathlib.Omega.{arith}
 use lib.Dec.{ltb, eqb}
 use lib.ListN.{length, take, drop, length-set, length-take, length-drop}
+use borrow.Author.Tests.{eqb-true, not-false}
 use Rattle.std.specs.Prelude.{Option, Some, None, Result, Ok, Err}
 use Rattle.laws.specs.declared.Run.{Run}
 use Rattle.laws.specs.Bytes.{Bytes, same}
@@ -27,8 +28,9 @@ use Rattle.cbor.proofs.Least.{item_least}
 use Rattle.fields.specs.declared.Kind.{Kind}
 use Rattle.fields.specs.declared.Key.{Key}
 use Rattle.fields.specs.declared.Fields.{Fields}
-use Rattle.fields.specs.Keys.{name_d, key_of, typed}
-use Rattle.fields.specs.Fields.{index_of, nothing, there, under, stored, as_run, number_in_def, run_in_def}
+use Rattle.fields.specs.declared.ValueType.{ValueType}
+use Rattle.fields.specs.Keys.{name_d, key_of, type_of, type_for_def, type_number, typed}
+use Rattle.fields.specs.Fields.{index_of, nothing, there, under, first_of, second_of, stored, as_run, number_in_def, run_in_def}
 use Rattle.fields.proofs.Places.{stored_here}
 use Rattle.map.specs.Walk.{Found, entered, valued, keyed, pair_at, and_then, pairs, map_after, map_at_def, ending_at, map_from_def}
 use Rattle.requests.specs.declared.Command.{Command}
@@ -39,14 +41,14 @@ use Rattle.requests.proofs.Sound.{is_request_lem, echo_inside}
 use Rattle.smp.proofs.Writing.{text_map}
 
 -- a string that may be there starts behind eleven bytes and its shortest head
-abbrev Behind : Option Value → Type 0
+abbrev Behind : Option Run → Type 0
 Behind None = Unit {0}
-Behind (Some v) = StringLeast 11 v
+Behind (Some r) = 11 + head_len_def r.len ≤ r.start
 
 -- so does the text among the fields
 record Late (f : Fields) : Type 0 where
   size : length f.values ≡ 9
-  behind : Behind (under Key.Text f)
+  behind : Behind (as_run (under Key.Text f))
 
 -- of what reading comes to; the place reached is behind the header and the map's head
 unfoldable FoundLate : Found → Type 0
@@ -55,17 +57,18 @@ FoundLate (Some r) = (9 ≤ r.0) × Late r.1
 
 -- nothing has been read
 nothing_late : Late nothing
-unfolding index_of
+unfolding index_of as_run
 nothing_late = record { size = refl; behind = tt }
 
--- a string that starts further on
-further : (v : Value) (at : ℕ) → StringLeast at v → 11 ≤ at → StringLeast 11 v
-further (Unsigned n) at h k = tt
-further (Negative n) at h k = tt
-further (Value.Bytes r) at h k = omega arith
-further (Text r) at h k = omega arith
-further (Flag x) at h k = tt
-further Null at h k = tt
+-- a text that starts further on
+further : (v : Value) (at : ℕ) → type_number (type_of v) ≡ type_number ValueType.Text → StringLeast at v → 11 ≤ at → Behind (as_run (Some v))
+unfolding type_of type_number first_of second_of as_run
+further (Unsigned n) at e h k = absurd (omega arith)
+further (Negative n) at e h k = absurd (omega arith)
+further (Value.Bytes r) at e h k = absurd (omega arith)
+further (Text r) at e h k = omega arith
+further (Flag x) at e h k = absurd (omega arith)
+further Null at e h k = absurd (omega arith)
 
 -- storing leaves as many values
 stored_size : (k : Key) (v : Value) (f : Fields) → length (stored k v f).values ≡ length f.values
@@ -73,19 +76,20 @@ unfolding stored
 stored_size k v f = simp length-set
 
 -- a text is stored
-stored_late : (f : Fields) (v : Value) (at : ℕ) → StringLeast at v → 11 ≤ at → Late f → Late (stored Key.Text v f)
-stored_late f v at h k o =
-    record { size = stored_size Key.Text v f ∙ o.size; behind = rw (stored_here Key.Text v f o.size) (further v at h k) }
+stored_late : (f : Fields) (v : Value) (at : ℕ) → type_number (type_of v) ≡ type_number ValueType.Text → StringLeast at v → 11 ≤ at → Late f
+    → Late (stored Key.Text v f)
+stored_late f v at e h k o =
+    record { size = stored_size Key.Text v f ∙ o.size; behind = rw (stored_here Key.Text v f o.size) (further v at e h k) }
 
 -- a pair whose key is the text's
 text_late : (f : Fields) (at : ℕ) (i : Option Item) (s : List ℕ) → 11 ≤ at → ItemWithin s at i → ItemLeast at i → Late f
     → FoundLate (valued (Some Key.Text) f i)
-unfolding valued entered FoundLate
+unfolding valued entered FoundLate type_for_def
 text_late f at None s k w h o = tt
 text_late f at (Some i) s k w h o =
     pick_case FoundLate (there Key.Text f) _ _ (λ a. tt)
     (λ a. pick_case FoundLate (not (typed Key.Text i.value)) _ _ (λ b. tt)
-    (λ b. (omega (arith, w.0), stored_late f i.value at h k o)))
+    (λ b. (omega (arith, w.0), stored_late f i.value at (eqb-true _ _ (not-false _ b)) h k o)))
 
 -- a pair whose key is another is skipped
 other_late : (f : Fields) (at : ℕ) (i : Option Item) (s : List ℕ) → 9 ≤ at → ItemWithin s at i → Late f → FoundLate (valued None f i)
@@ -163,20 +167,15 @@ RequestLate (Ok (Request.Upload u)) = Unit {0}
 RequestLate (Ok Request.Erase) = Unit {0}
 
 -- of an echo by what was read for its text
-text_behind : (o : Option Value) → Behind o → RequestLate (echo_with (as_run o))
-unfolding RequestLate echo_with as_run
+text_behind : (x : Option Run) → Behind x → RequestLate (echo_with x)
+unfolding RequestLate echo_with
 text_behind None h = tt
-text_behind (Some (Unsigned n)) h = tt
-text_behind (Some (Negative n)) h = tt
-text_behind (Some (Value.Bytes r)) h = h
-text_behind (Some (Text r)) h = h
-text_behind (Some (Flag b)) h = tt
-text_behind (Some Null) h = tt
+text_behind (Some r) h = h
 
 -- of an echo by its fields
 echo_late : (f : Fields) → Late f → RequestLate (echo_with (run_in_def f Key.Text))
 unfolding run_in_def
-echo_late f o = text_behind (under Key.Text f) o.behind
+echo_late f o = text_behind (run_in_def f Key.Text) o.behind
 
 -- of a request by its map
 mapped_late : (ask : Fields → Result Request Reason) (o : Option Fields) → ((f : Fields) → o ≡ Some f → RequestLate (ask f)) → RequestLate (mapped ask o)

@@ -7,7 +7,7 @@ use mathlib.Core.List.{List}
 use Prim.Native.Nat.{ℕ, ◌+◌, ◌≤◌}
 use native.Mathlib.Decide.{dec_le}
 use native.Mathlib.Omega.{arith}
-use lib.Dec.{leb, eqb}
+use lib.Dec.{leb, eqb, lit<}
 use lib.ListN.{length, drop}
 use borrow.Author.Tests.{leb-true, ne_eqb}
 use Rattle.std.specs.Prelude.{Option, Some, None, Result, Ok, Err}
@@ -20,7 +20,7 @@ use Rattle.reason.specs.declared.Reason.{Reason}
 use Rattle.fields.specs.declared.Kind.{Kind}
 use Rattle.fields.specs.declared.Key.{Key}
 use Rattle.fields.specs.declared.Fields.{Fields}
-use Rattle.fields.specs.Fields.{number_in_def, run_in_def}
+use Rattle.fields.specs.Fields.{index_of, number_in_def, run_in_def}
 use Rattle.map.specs.Walk.{map_from_def}
 use Rattle.map.proofs.Sound.{map_run}
 use Rattle.rules.specs.declared.Upload.{Upload}
@@ -102,15 +102,15 @@ upload_with_lem s f (Some off) (Some chunk) o t = (o, t)
 
 -- of a request of any command
 request_of_inside : (k : Option Command) (s : List ℕ) → RequestInside s (request_of_def k s)
-unfolding RequestInside request_of_def
+unfolding RequestInside request_of_def index_of
 request_of_inside (Some Command.Echo) s =
-    mapped_inside s _ (map_from_def Kind.Echo s 8) (λ f e. echo_with_lem s (run_in_def f Key.Text) (map_run Kind.Echo s 8 f e Key.Text))
+    mapped_inside s _ (map_from_def Kind.Echo s 8) (λ f e. echo_with_lem s (run_in_def f Key.Text) (map_run Kind.Echo s 8 f e Key.Text (lit< tt)))
 request_of_inside (Some Command.Reset) s = mapped_inside s _ (map_from_def Kind.Bare s 8) (λ f e. tt)
 request_of_inside (Some Command.Images) s = mapped_inside s _ (map_from_def Kind.Bare s 8) (λ f e. tt)
 request_of_inside (Some Command.Upload) s =
     mapped_inside s _ (map_from_def Kind.Upload s 8)
-    (λ f e. upload_with_lem s f (number_in_def f Key.Off) (run_in_def f Key.Data) (map_run Kind.Upload s 8 f e Key.Data)
-    (map_run Kind.Upload s 8 f e Key.Sha))
+    (λ f e. upload_with_lem s f (number_in_def f Key.Off) (run_in_def f Key.Data) (map_run Kind.Upload s 8 f e Key.Data (lit< tt))
+    (map_run Kind.Upload s 8 f e Key.Sha (lit< tt)))
 request_of_inside (Some Command.Erase) s = mapped_inside s _ (map_from_def Kind.Erase s 8) (λ f e. erase_with_lem s (number_in_def f Key.Slot))
 request_of_inside None s = tt
 

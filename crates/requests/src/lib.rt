@@ -64,7 +64,9 @@ fn echo_in(s: &[u8]) -> Result<Request, Reason>
 {
     let mut f = Fields::new();
     read_fields(Kind::Echo, s, &mut f)?;
-    let text = f.run(Key::Text).ok_or(Reason::NoText)?;
+    let Some(text) = f.run(Key::Text) else {
+        return Err(Reason::NoText);
+    };
     Ok(Request::Echo(text))
 }
 
@@ -84,9 +86,13 @@ fn erase_in(s: &[u8]) -> Result<Request, Reason>
 {
     let mut f = Fields::new();
     read_fields(Kind::Erase, s, &mut f)?;
-    match f.number(Key::Slot) {
-        None | Some(1) => Ok(Request::Erase),
-        Some(_) => Err(Reason::OtherSlot),
+    let Some(slot) = f.number(Key::Slot) else {
+        return Ok(Request::Erase);
+    };
+    if slot == 1 {
+        Ok(Request::Erase)
+    } else {
+        Err(Reason::OtherSlot)
     }
 }
 

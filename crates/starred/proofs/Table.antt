@@ -15,7 +15,7 @@ use Rattle.strict_base64.specs.Base64.{char, encode}
 use Rattle.frame.specs.Line.{frame}
 use Rattle.sender.specs.Sender.{frame_count_def, raw_of, start_of, stop_of, piece_of, frame_of}
 use Rattle.cbor.specs.Write.{be_bytes, head_of}
-use Rattle.fields.specs.Fields.{index_of, run_in_def, as_run}
+use Rattle.fields.specs.Fields.{index_of, first_of, second_of, run_in_def, as_run}
 use Rattle.map.specs.Walk.{map_from_def}
 use Rattle.session.specs.Session.{region_ok, overlapping, layout_ok, session_ok}
 use Rattle.rules.specs.Plan.{above, mis_sized_def, same_tag, plan_later_def, plan_sized_def, plan_length_def, plan_first_def, plan_of}
@@ -34,7 +34,7 @@ unfolding all_right starred same both pick be16 of_be16 pasted shifted bits byte
     frame_count_def raw_of start_of stop_of piece_of frame_of planned plan_of above plan_later_def plan_sized_def plan_length_def plan_first_def
     mis_sized_def same_tag region_ok overlapping layout_ok session_ok sized header_bytes is_request_def read_request_def
     command_of_def request_of_def mapped echo_with
-    index_of run_in_def as_run map_from_def reply_map reply_packet reply_bytes be_bytes head_of asked taking act_by bytes_by said_by handled
+    index_of first_of second_of run_in_def as_run map_from_def reply_map reply_packet reply_bytes be_bytes head_of asked taking act_by bytes_by said_by handled
     response_for response_map act_for asks_reset_def done later_map
 computed = refl
 

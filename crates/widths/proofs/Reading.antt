@@ -5,7 +5,7 @@ use mathlib.Core.Bool.{true}
 use mathlib.Core.List.{List}
 use Prim.Native.Nat.{ℕ, ◌+◌, ◌≤◌, ◌<◌}
 use native.Mathlib.Omega.{arith}
-use lib.Dec.{leb, eqb}
+use lib.Dec.{leb, eqb, lit<}
 use lib.ListN.{length, get_or, drop}
 use borrow.Author.Tests.{leb-true, eqb-true}
 use Rattle.laws.specs.declared.Run.{Run}
@@ -14,7 +14,7 @@ use Rattle.laws.specs.Parts.{Within}
 use Rattle.laws.proofs.Choice.{both_true}
 use Rattle.fields.specs.declared.Kind.{Kind}
 use Rattle.fields.specs.declared.Key.{Key}
-use Rattle.fields.specs.Fields.{number_in_def, run_in_def}
+use Rattle.fields.specs.Fields.{index_of, number_in_def, run_in_def}
 use Rattle.map.proofs.Sound.{map_run}
 use Rattle.smp.specs.Packet.{sized}
 use Rattle.laws.proofs.Lists.{two_bytes}
@@ -42,11 +42,12 @@ reply_sized s e =
 
 -- each reply that is read is small, whose group is of two bytes
 pub reply_small : (s : List ℕ) → get_or s 4 0 < 256 → get_or s 5 0 < 256 → (r : Reply) → read_reply_def s ≡ reply r → ReplySmall r
+unfolding index_of
 reply_small s high low =
     read_case ReplySmall s
     (λ f e m g h.
     let z = reply_sized s e in
-    let inside = run_inside s (run_in_def f Key.Text) (map_run Kind.Reply s 8 f m Key.Text) in
+    let inside = run_inside s (run_in_def f Key.Text) (map_run Kind.Reply s 8 f m Key.Text (lit< tt)) in
     record {
       length = omega (arith, z.0, z.1);
       group = omega (arith, two_bytes s 4);
