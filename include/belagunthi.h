@@ -21,19 +21,19 @@
  * To link: the archive libport.a is code for x86-64 Linux, today for no other processor, and needs memcpy, memmove and memset of the C library, and
  * nothing else. No call takes more than BG_STACK bytes of stack, but bg_replay, which takes at most BG_BENCH_STACK; measured on x86-64,
  * without what these three take:
- *   bg_collect           664
+ *   bg_collect           536
  *   bg_take_line        1032
  *   bg_send_frame        792
  *   bg_configure           0
- *   bg_handle            920
+ *   bg_handle            648
  *   bg_write_echo         56
  *   bg_write_reset         0
  *   bg_write_erase         0
- *   bg_write_upload      184
+ *   bg_write_upload      136
  *   bg_most_data           8
- *   bg_read_reply        408
+ *   bg_read_reply        392
  *   bg_next_sequence       8
- *   bg_first_record       64
+ *   bg_first_record       48
  *   bg_next_record         0
  *   bg_replay           1320
  *   bg_write_transcript  136

@@ -2,7 +2,7 @@
 -- the bound of what is read.
 -- Assumes nothing.
 use mathlib.Core.Path.{◌≡◌, refl, sym, ap, ◌∙◌}
-use mathlib.Core.List.{List, ◌∷◌}
+use mathlib.Core.List.{List, [], ◌∷◌}
 use Prim.Native.Nat.{ℕ, zero, suc, ◌+◌, ◌-◌, ◌*◌, ◌/◌, ◌%◌, ◌^◌, ◌≤◌, ◌<◌}
 use native.Mathlib.Nat.{
   pow-suc,
@@ -25,7 +25,7 @@ use native.Mathlib.Nat.{
 use native.Mathlib.Numerals.{add-one}
 use Rattle.std.specs.Int.{w64, to_be_bytes, bytes_high_first}
 use native.Mathlib.Omega.{arith}
-use lib.ListN.{length, take, drop}
+use lib.ListN.{length, get_or, take, drop}
 use lib.Seq.{take_all}
 use lib.Dec.{lit<}
 use Rattle.cbor.specs.Read.{be_after}
@@ -107,3 +107,26 @@ last_bytes w n bs h eight =
     let low : drop (8 - w) bs ≡ be_bytes w n =
     ap (λ (l : List ℕ). drop (8 - w) l) (eight ∙ high_first 8 n ∙ ap (λ (k : ℕ). be_bytes k n) all) ∙ low_bytes (8 - w) w n in
     rw (back, low) (take_all w (be_bytes w n) (rw bytes_length (omega arith)))
+
+-- the number in one byte, in two and in four
+pub one_byte : (s : List ℕ) → length s ≡ 1 → be_after 0 s ≡ get_or s 0 0
+unfolding be_after
+one_byte [] e = absurd (omega arith)
+one_byte (x ∷ []) e = omega arith
+one_byte (x ∷ y ∷ s) e = absurd (omega arith)
+
+pub two_bytes : (s : List ℕ) → length s ≡ 2 → be_after 0 s ≡ get_or s 0 0 * 256 + get_or s 1 0
+unfolding be_after
+two_bytes [] e = absurd (omega arith)
+two_bytes (x ∷ []) e = absurd (omega arith)
+two_bytes (x ∷ y ∷ []) e = omega arith
+two_bytes (x ∷ y ∷ z ∷ s) e = absurd (omega arith)
+
+pub four_bytes : (s : List ℕ) → length s ≡ 4 → be_after 0 s ≡ ((get_or s 0 0 * 256 + get_or s 1 0) * 256 + get_or s 2 0) * 256 + get_or s 3 0
+unfolding be_after
+four_bytes [] e = absurd (omega arith)
+four_bytes (x ∷ []) e = absurd (omega arith)
+four_bytes (x ∷ y ∷ []) e = absurd (omega arith)
+four_bytes (x ∷ y ∷ z ∷ []) e = absurd (omega arith)
+four_bytes (x ∷ y ∷ z ∷ w ∷ []) e = omega arith
+four_bytes (x ∷ y ∷ z ∷ w ∷ v ∷ s) e = absurd (omega arith)

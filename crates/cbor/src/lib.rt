@@ -63,6 +63,22 @@ fn number_in(s: &[u8]) -> u64
     n
 }
 
+// The number in at most eight bytes, the high one first: one of one, two or four bytes, as most heads have, is read with no loop.
+#[tactic(auto, using(crate::proofs::Numbers::one_byte, crate::proofs::Numbers::two_bytes, crate::proofs::Numbers::four_bytes))]
+fn argument_in(s: &[u8]) -> u64
+    requires { length s.now ≤ 8 }
+    ensures { result ≡ be_after 0 s.now }
+{
+    match s {
+        [b] => u64::from(*b),
+        [high, low] => u64::from(*high) * 256 + u64::from(*low),
+        [a, b, c, d] => {
+            ((u64::from(*a) * 256 + u64::from(*b)) * 256 + u64::from(*c)) * 256 + u64::from(*d)
+        }
+        _ => number_in(s),
+    }
+}
+
 // The head at a place of s; none where it is malformed.
 #[tactic(auto, unfolding(crate::specs::Read::head_at_def, crate::specs::Read::head_after, laws::specs::Choice::pick))]
 pub fn head_at(s: &[u8], at: usize) -> Option<Head>
@@ -83,7 +99,7 @@ pub fn head_at(s: &[u8], at: usize) -> Option<Head>
         return None;
     }
     let end = next + width_of(info);
-    let argument = number_in(s.get(next..end)?);
+    let argument = argument_in(s.get(next..end)?);
     Some(Head {
         major,
         argument,
@@ -169,7 +185,8 @@ pub fn head_len(n: u64) -> usize
     }
 }
 
-// Writes the initial byte and n in w bytes after it.
+// Writes the initial byte and n in w bytes after it. It is compiled into its caller, where w is a constant, as is put_head, where the argument often is.
+#[inline(always)]
 fn put_wide(out: &mut Writer, first: u8, w: usize, n: u64)
     requires { (w ≤ 8) × HasRoom out.old (first ∷ be_bytes w n) }
     ensures { Wrote out.old out.new (first ∷ be_bytes w n) }
@@ -180,6 +197,7 @@ fn put_wide(out: &mut Writer, first: u8, w: usize, n: u64)
 
 // Writes the shortest head of this major type and argument.
 #[tactic(auto, unfolding(crate::specs::Write::head_of, crate::specs::Write::be_bytes, laws::specs::Choice::pick))]
+#[inline(always)]
 pub fn put_head(out: &mut Writer, major: u8, n: u64)
     requires { (major < 8) × HasRoom out.old (head_of major n) }
     ensures { Wrote out.old out.new (head_of major n) }

@@ -113,17 +113,17 @@ impl Collector {
     {
         let from = at.min(lump.len());
         let rest = &lump[from..];
-        let Some(n) = first_newline(rest) else {
-            return Step {
+        match first_newline(rest) {
+            None => Step {
                 got: Ok(None),
                 place: lump.len(),
                 collector: self.with(rest),
-            };
-        };
-        Step {
-            got: self.end(&rest[..n], line),
-            place: from + n + 1,
-            collector: Collector::new(),
+            },
+            Some(n) => Step {
+                got: self.end(&rest[..n], line),
+                place: from + n + 1,
+                collector: Collector::new(),
+            },
         }
     }
 

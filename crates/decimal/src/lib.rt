@@ -7,16 +7,21 @@ ghost use Rattle.decimal.specs.Decimal.{digits, digit_count_def, decimal};
 
 use writer::Writer;
 
-// How many decimal digits n has, of which `more` at most stand after the first.
+// How many decimal digits n has, of which `more` at most stand after the first. A number of one digit is told first: most are.
+#[inline]
 pub fn digit_count(more: usize, n: usize) -> usize
     ensures { (result ≡ digit_count_def more n) × (1 ≤ result) × (result ≤ more + 1) }
 {
+    if n < 10 {
+        return 1;
+    }
     let after = n.checked_ilog10().unwrap_or(0) as usize;
     1 + after.min(more)
 }
 
 // Writes the last decimal digits of n, as many as there is room for.
 // Kept, no plainer: itoa::write_digits goes back from an end that the count gives just so, and has a second definition of the text.
+#[inline]
 fn put_digits(text: &mut [u8], n: usize)
     ensures { text.new ≡ digits (length text.old) n }
 {
@@ -27,7 +32,8 @@ fn put_digits(text: &mut [u8], n: usize)
     }
 }
 
-// Writes a number in decimal.
+// Writes a number in decimal. It is compiled into its caller, as is put_ended, so that the writer's place stays in a register.
+#[inline(always)]
 pub fn put_decimal(out: &mut Writer, more: usize, n: usize)
     requires { HasRoom out.old (decimal more n) }
     ensures { Wrote out.old out.new (decimal more n) }
@@ -38,6 +44,7 @@ pub fn put_decimal(out: &mut Writer, more: usize, n: usize)
 }
 
 // Writes a number in decimal and one byte after it.
+#[inline(always)]
 pub fn put_ended(out: &mut Writer, more: usize, n: usize, last: u8)
     requires { HasRoom out.old (decimal more n ++ (last ∷ [])) }
     ensures { Wrote out.old out.new (decimal more n ++ (last ∷ [])) }

@@ -30,7 +30,9 @@ fn version_len(version: Version) -> usize
     first + second + third + 2
 }
 
-// Writes a version: three numbers with a point between them.
+// Writes a version: three numbers with a point between them. It is compiled into its caller, as are the writers below, so that the writer's place stays in
+// a register from byte to byte.
+#[inline(always)]
 fn put_version_text(out: &mut Writer, version: Version)
     requires { HasRoom out.old (version_text version) }
     ensures { Wrote out.old out.new (version_text version) }
@@ -41,6 +43,7 @@ fn put_version_text(out: &mut Writer, version: Version)
 }
 
 // Writes the key of a version and the version as a text string.
+#[inline(always)]
 fn put_version(out: &mut Writer, version: Version)
     requires { HasRoom out.old (version_part version) }
     ensures { Wrote out.old out.new (version_part version) }
@@ -52,6 +55,7 @@ fn put_version(out: &mut Writer, version: Version)
 }
 
 // Writes the key of a hash and its 32 bytes, those of s from place hash on, as a byte string.
+#[inline(always)]
 fn put_hash(out: &mut Writer, s: &[u8], hash: usize)
     requires hash_in_bounds { hash + 32 ≤ length s.now }
     requires has_room { HasRoom out.old (hash_part s.now hash) }
@@ -110,6 +114,7 @@ impl<'a> Listed<'a> {
 
     // Writes the map of the slot's image; the slot has this number.
     #[tactic(auto, unfolding(crate::specs::Listing::image_map))]
+    #[inline(always)]
     fn put_map(&self, out: &mut Writer, number: u64)
         requires { HasRoom out.old (image_map number self.now.bytes.now self.now.image) }
         ensures { Wrote out.old out.new (image_map number self.now.bytes.now self.now.image) }

@@ -3,7 +3,7 @@
 #![tactic(auto)]
 
 ghost use Rattle.std.specs.Prelude.{◌≡◌, ◌+◌, ◌^◌, ◌≤◌, ◌<◌, length};
-ghost use Rattle.recording.specs.Recording.{be32_at, said, line_at, record_at_def, step_at_def, is_some, entries_from, begun, first_record_def};
+ghost use Rattle.recording.specs.Recording.{be16_at, be32_at, said, line_at, record_at_def, step_at_def, is_some, entries_from, begun, first_record_def};
 
 use laws::Run;
 use refusal::Refusal;
@@ -33,12 +33,21 @@ const HEAD: usize = 3;
 
 const TRAILER: usize = 8;
 
+// The number in two bytes from a place on, the high one first. Both are there, so that none is looked for first, as laws::be16_at does: that takes a third
+// more instructions a record.
+fn two_at(s: &[u8], i: usize) -> usize
+    requires { i + 1 < length s.now }
+    ensures { (result ≡ be16_at s.now i) × (result < 65536) }
+{
+    usize::from(s[i]) * 256 + usize::from(s[i + 1])
+}
+
 // The number in four bytes from a place on, the high one first.
 fn four_at(s: &[u8], i: usize) -> usize
     requires { i + 3 < length s.now }
     ensures { (result ≡ be32_at s.now i) × (result < 2 ^ 32) }
 {
-    laws::be16_at(s, i) * 65536 + laws::be16_at(s, i + 2)
+    two_at(s, i) * 65536 + two_at(s, i + 2)
 }
 
 // The record that begins at a place of a file with a first byte that was read, where its line ends before another place.
@@ -47,7 +56,7 @@ fn line_at(file: &[u8], stop: usize, at: usize, to_controller: bool) -> Option<R
     ensures { result ≡ line_at file.now stop at to_controller }
 {
     let start = at + HEAD;
-    let len = laws::be16_at(file, at + 1);
+    let len = two_at(file, at + 1);
     if stop - start < len {
         return None;
     }

@@ -71,7 +71,9 @@ pub fn put_header(buf: &mut [u8], h: Header)
     laws::put(buf, 6, &[h.sequence, h.command]);
 }
 
-// Writes a string of this major type: 2 of bytes, 3 of text.
+// Writes a string of this major type: 2 of bytes, 3 of text. It is compiled into its caller, as are the writers below, so that the writer's place stays in a
+// register from byte to byte.
+#[inline(always)]
 pub fn put_string(out: &mut Writer, major: u8, x: &[u8])
     requires major_bound { major < 8 }
     requires has_room { HasRoom out.old (head_of major (length x.now) ++ x.now) }
@@ -82,6 +84,7 @@ pub fn put_string(out: &mut Writer, major: u8, x: &[u8])
 }
 
 // Writes a text string.
+#[inline(always)]
 pub fn put_text(out: &mut Writer, text: &[u8])
     requires { HasRoom out.old (text_of text.now) }
     ensures { Wrote out.old out.new (text_of text.now) }
@@ -90,6 +93,7 @@ pub fn put_text(out: &mut Writer, text: &[u8])
 }
 
 // Writes a key of this name with a number.
+#[inline(always)]
 pub fn put_number(out: &mut Writer, name: &[u8], n: u64)
     requires { HasRoom out.old (text_of name.now ++ unsigned n) }
     ensures { Wrote out.old out.new (text_of name.now ++ unsigned n) }
@@ -99,6 +103,7 @@ pub fn put_number(out: &mut Writer, name: &[u8], n: u64)
 }
 
 // Writes the map {"rc": n}.
+#[inline(always)]
 fn put_rc(out: &mut Writer, n: u8)
     requires { HasRoom out.old (rc_map n) }
     ensures { Wrote out.old out.new (rc_map n) }
@@ -108,6 +113,7 @@ fn put_rc(out: &mut Writer, n: u8)
 }
 
 // Writes a reply's map: {"rc": n}, {"rc": 0, "off": n} or {"r": text}, the text a part of s.
+#[inline(always)]
 fn put_map(out: &mut Writer, s: &[u8], reply: Reply)
     requires sayable { Sayable s.now reply }
     requires has_room { HasRoom out.old (reply_map s.now reply) }
@@ -146,6 +152,7 @@ pub fn put_reply_header(h: Header, buf: &mut [u8], end: usize)
 }
 
 // Writes a reply that fits to the start of buf, the map first and then the header with its length; gives how long it is.
+#[inline(always)]
 fn put_reply(h: Header, s: &[u8], reply: Reply, buf: &mut [u8]) -> usize
     requires op_bound { h.op < 255 }
     requires sayable { Sayable s.now reply }

@@ -11,7 +11,8 @@ ghost use Rattle.uploads.specs.Inner.{first_pairs};
 use refusal::Refusal;
 use writer::Writer;
 
-// Writes a key of this name with a byte string.
+// Writes a key of this name with a byte string. It is compiled into its caller, as are the writers below, so that the writer's place stays in a register.
+#[inline(always)]
 fn put_bytes(out: &mut Writer, name: &[u8], x: &[u8])
     requires { HasRoom out.old (text_of name.now ++ bytes_of x.now) }
     ensures { Wrote out.old out.new (text_of name.now ++ bytes_of x.now) }
@@ -21,6 +22,7 @@ fn put_bytes(out: &mut Writer, name: &[u8], x: &[u8])
 }
 
 // Writes the map {"data": data, "off": off}.
+#[inline(always)]
 fn put_later(out: &mut Writer, data: &[u8], off: u64)
     requires { HasRoom out.old (later_map «data».now off) }
     ensures { Wrote out.old out.new (later_map «data».now off) }
@@ -31,6 +33,7 @@ fn put_later(out: &mut Writer, data: &[u8], off: u64)
 }
 
 // Writes the pairs "data": data, "len": size, "off": 0.
+#[inline(always)]
 fn put_pairs(out: &mut Writer, data: &[u8], size: u64)
     requires { HasRoom out.old (first_pairs «data».now size) }
     ensures { Wrote out.old out.new (first_pairs «data».now size) }
@@ -41,6 +44,7 @@ fn put_pairs(out: &mut Writer, data: &[u8], size: u64)
 }
 
 // Writes the map of an upload at offset 0.
+#[inline(always)]
 fn put_first(out: &mut Writer, data: &[u8], size: u64, tag: &[u8])
     requires { HasRoom out.old (first_map «data».now size tag.now) }
     ensures { Wrote out.old out.new (first_map «data».now size tag.now) }

@@ -7,3 +7,6 @@ use Rattle.decimal.proofs.digit_count.Goals as goal
 
 pub returns : goal.returns
 returns c = grind (arith, common_steps, count_small, count_is)
+
+pub returns-then-n-lt10 : goal.returns-then-n-lt10
+returns-then-n-lt10 c = grind (arith, common_steps, count_small)

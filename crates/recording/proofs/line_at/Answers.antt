@@ -2,14 +2,13 @@
 -- Assumes nothing.
 use borrow.Author.Tests.{lt-ltb, le-ltb}
 use Rattle.laws.proofs.Choice.{pick_yes, pick_no}
-use Rattle.laws.proofs.Lists.{two_bytes}
 use Rattle.recording.specs.Recording.{line_at}
 use Rattle.recording.proofs.line_at.Goals as goal
 
 pub returns-then-stop-start : goal.returns-then-stop-start
 unfolding line_at
-returns-then-stop-start c = simp (two_bytes, ← c.be16_at-len.ensures.0, lt-ltb _ _ c.if-stop-start.true, pick_yes)
+returns-then-stop-start c = simp (← c.two_at-len.ensures.0, lt-ltb _ _ c.if-stop-start.true, pick_yes)
 
 pub returns : goal.returns
 unfolding line_at
-returns c = simp (two_bytes, ← c.be16_at-len.ensures.0, le-ltb _ _ c.if-stop-start.false, pick_no)
+returns c = simp (← c.two_at-len.ensures.0, le-ltb _ _ c.if-stop-start.false, pick_no)

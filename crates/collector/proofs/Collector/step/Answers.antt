@@ -10,14 +10,14 @@ use Rattle.collector.proofs.Collector.step.Goals as goal
 rest_min : (at from : ℕ) (s : List ℕ) → from ≡ min at (length s) → take (length s - from) (drop from s) ≡ drop at s
 rest_min at from s e = rest_all s from ∙ rw e (drop_min at s)
 
-pub returns-in_default : goal.returns-in_default
-returns-in_default c =
+pub returns-in-None : goal.returns-in-None
+returns-in-None c =
     let a = c.args in
     let e = rest_min a.at c.min-from.result a.lump.now c.min-from.ensures in
-    step_rest a.self a.lump.now a.at a.line.now _ c.with.result e c.in_default.ensures c.with.ensures
+    step_rest a.self a.lump.now a.at a.line.now _ c.with.result e c.in-None.ensures c.with.ensures
 
-pub returns : goal.returns
-returns c =
+pub returns-in-Some : goal.returns-in-Some
+returns-in-Some c =
     let a = c.args in
     let e = rest_min a.at c.min-from.result a.lump.now c.min-from.ensures in
     step_line a.self a.lump.now a.at c.min-from.result a.line.now _ c.in-Some.n _ c.end.new.line _
