@@ -30,6 +30,10 @@ use Rattle.smp.specs.Reply.{rc_map, reply_map, reply_header_def, reply_packet, r
 use Rattle.smp.specs.Inner.{Starts, Written}
 use Rattle.smp.proofs.Headers.{header_length}
 
+-- what comes after a part has as much room after another part of that length
+pub room_after : (w v : Writer) (x y z : List ℕ) → length x ≡ length y → HasRoom w (x ++ z) → Wrote w v y → HasRoom v z
+room_after w v x y z same r e = room_second w v y z (omega (arith, r, same, length-append x z, length-append y z)) e
+
 -- a third after two
 module _ (a b : Writer) (x y z : List ℕ) (r : HasRoom a (x ++ (y ++ z))) (u : Wrote a b x) where
   -- the second has room after the first

@@ -1,13 +1,12 @@
 -- `listing::put_version_text` meets its contract: two numbers with a point after each, and a third.
 -- Assumes nothing.
+use mathlib.Core.Path.{◌≡◌}
 use mathlib.Core.List.{List, [], ◌∷◌, ◌++◌}
 use Prim.Native.Nat.{ℕ}
 use native.Mathlib.Omega.{arith}
-use lib.ListN.{length-append}
-use Rattle.writer.specs.declared.Writer.{Writer}
-use Rattle.writer.specs.Writer.{HasRoom, Wrote}
-use Rattle.writer.proofs.Steps.{room_first, room_second}
-use Rattle.smp.proofs.Writing.{wrote_three}
+use lib.ListN.{length, length-append}
+use Rattle.writer.proofs.Steps.{room_first}
+use Rattle.smp.proofs.Writing.{room_after, wrote_three}
 use Rattle.listing.specs.Listing.{five}
 use Rattle.listing.proofs.put_version_text.Goals as goal
 
@@ -19,24 +18,22 @@ ended n b = five n ++ (b ∷ [])
 abbrev pointed : ℕ → List ℕ
 pointed n = ended n 0x2E
 
--- what comes after a number with a point has as much room after one with any other byte
-room_after : (w v : Writer) (n b : ℕ) (x : List ℕ) → HasRoom w (pointed n ++ x) → Wrote w v (ended n b) → HasRoom v x
-room_after w v n b x r e =
-    room_second w v (ended n b) x
-    (omega (arith, r, length-append (pointed n) x, length-append (ended n b) x, length-append (five n) (0x2E ∷ []), length-append (five n) (b ∷ []))) e
+-- a number with a point is as long as with any other byte
+ended_length : (n b : ℕ) → length (pointed n) ≡ length (ended n b)
+ended_length n b = omega (arith, length-append (five n) (0x2E ∷ []), length-append (five n) (b ∷ []))
 
 pub put_ended-requires-2 : goal.put_ended-requires-2
 put_ended-requires-2 c =
     let v = c.args.version in
     rw c.from-2.ensures
     (room_first c.put_ended.new.out (pointed v.minor) (five v.revision)
-    (room_after _ _ v.major _ (pointed v.minor ++ five v.revision) c.requires (rw c.from.ensures at c.put_ended.ensures)))
+    (room_after _ _ (pointed v.major) _ (pointed v.minor ++ five v.revision) (ended_length v.major _) c.requires (rw c.from.ensures at c.put_ended.ensures)))
 
 pub put_decimal-requires : goal.put_decimal-requires
 put_decimal-requires c =
     let v = c.args.version in
-    room_after _ _ v.minor _ (five v.revision)
-    (room_after _ _ v.major _ (pointed v.minor ++ five v.revision) c.requires (rw c.from.ensures at c.put_ended.ensures))
+    room_after _ _ (pointed v.minor) _ (five v.revision) (ended_length v.minor _)
+    (room_after _ _ (pointed v.major) _ (pointed v.minor ++ five v.revision) (ended_length v.major _) c.requires (rw c.from.ensures at c.put_ended.ensures))
     (rw c.from-2.ensures at c.put_ended-2.ensures)
 
 pub returns : goal.returns
